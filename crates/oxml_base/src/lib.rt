@@ -1,0 +1,17 @@
+//! What every layer of the compiler shares: places in a source, the rules and limits that a
+//! refusal names, literals, and the traits through which the compiler meets the outside.
+#![tactic(auto)]
+
+mod errors;
+mod literal;
+mod refusal;
+mod rule;
+mod span;
+
+pub use errors::{Failed, LoadErr, NoMemory, SaveErr};
+pub use literal::{Lit, Place};
+pub use refusal::{Limit, Refusal};
+pub use rule::Rule;
+pub use span::Span;
+/// The list of this project: a `Vec` that contracts see as the list of its elements.
+pub use sqlite_items::Items;
