@@ -4,12 +4,16 @@
 
 mod errors;
 mod literal;
+mod mem_shelf;
+mod outside;
 mod refusal;
 mod rule;
 mod span;
 
 pub use errors::{Failed, LoadErr, NoMemory, SaveErr};
 pub use literal::{Lit, Place};
+pub use mem_shelf::MemShelf;
+pub use outside::{Shelf, ShelfCall, Sink};
 pub use refusal::{Limit, Refusal};
 pub use rule::Rule;
 pub use span::Span;
