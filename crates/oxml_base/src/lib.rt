@@ -5,6 +5,7 @@
 mod errors;
 mod literal;
 mod mem_shelf;
+mod mem_sink;
 mod outside;
 mod refusal;
 mod rule;
@@ -13,6 +14,7 @@ mod span;
 pub use errors::{Failed, LoadErr, NoMemory, SaveErr};
 pub use literal::{Lit, Place};
 pub use mem_shelf::MemShelf;
+pub use mem_sink::MemSink;
 pub use outside::{Shelf, ShelfCall, Sink};
 pub use refusal::{Limit, Refusal};
 pub use rule::Rule;
