@@ -18,6 +18,6 @@ pub use mem_sink::MemSink;
 pub use outside::{Shelf, ShelfCall, Sink};
 pub use refusal::{Limit, Refusal};
 pub use rule::Rule;
-pub use span::Span;
+pub use span::{Span, line_col};
 /// The list of this project: a `Vec` that contracts see as the list of its elements.
 pub use sqlite_items::Items;
