@@ -1,3 +1,4 @@
+pub mod Files
 pub mod LineColumn
 pub mod Memory
 pub mod MemorySink

@@ -1,5 +1,5 @@
 -- Where a place stands in a text, as an editor counts.
-use Rattle.std.specs.Prelude.{ℕ, ◌+◌, ◌-◌, ◌^◌, ◌==◌, not, min, List, count_by, length, take_while, reverse}
+use Rattle.std.specs.Prelude.{ℕ, ◌+◌, ◌==◌, not, List, count_by, length, take_while, reverse}
 
 -- the line of a place behind these bytes, counted from 1
 abbrev pub line_behind : List ℕ → ℕ

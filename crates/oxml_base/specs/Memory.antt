@@ -25,7 +25,6 @@ shelf_view shelf = record {
 abbrev pub shelf_call_fails : MemShelf → Bool
 shelf_call_fails shelf = list_any (λ call. nat_eq call shelf.calls) shelf.fail.items
 
-
 -- a call that is to fail failed, unless memory ran out
 abbrev pub IsFailedLoad : {T : Type 0} → Result T LoadErr → Type 0
 IsFailedLoad result = IfOk result (λ _. ⊥) × IfErr result (λ error. (error ≡ TooLong) → ⊥)

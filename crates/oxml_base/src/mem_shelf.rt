@@ -5,36 +5,10 @@ ghost use Rattle.oxml_base.specs.Memory.{held_in, shelf_view, shelf_call_fails, 
 ghost use Rattle.oxml_base.specs.Outside.{ShelfFails, SameHeld, Loads, LoadRefused, SameBut, Saves, SaveRefused};
 
 use crate::errors::{LoadErr, NoMemory, SaveErr};
+use crate::last_fault::LastFault;
 use crate::outside::{Shelf, ShelfCall};
 use std::alloc::{AllocError, Global};
 use std::collections::BTreeMap;
-
-/// The call of a shelf that failed last, and the name that it asked for.
-#[derive(Debug, Drop)]
-pub struct LastFault {
-    pub call: ShelfCall,
-    pub name: String,
-}
-
-impl LastFault {
-    /// What a new shelf has, on which no call has failed: a load of the empty name.
-    pub fn none(alloc: Global) -> LastFault
-        ensures call { result.call ≡ ShelfCall.Load }
-        ensures name { string_bytes result.name ≡ [] }
-    {
-        LastFault {
-            call: ShelfCall::Load,
-            name: String::new(alloc),
-        }
-    }
-
-    pub fn new(alloc: Global, call: ShelfCall, name: &str) -> Result<LastFault, AllocError>
-        ensures { OnOk result (IfOk result (λ fault. (fault.call ≡ call) × (string_bytes fault.name ≡ name.now))) }
-    {
-        let name = String::from_str(alloc, name)?;
-        Ok(LastFault { call, name })
-    }
-}
 
 /// A shelf in memory, which tells what it holds and fails the calls that it is told to fail.
 #[derive(Debug, Drop)]
@@ -124,7 +98,12 @@ fn append_within(bytes: &[u8], room: &mut Vec<u8>, most: u64) -> Result<(), Load
 }
 
 /// Makes the name hold a copy of the bytes.
-fn put_file(files: &mut BTreeMap<String, Vec<u8>>, alloc: Global, name: &str, bytes: &[u8]) -> Result<(), AllocError>
+fn put_file(
+    files: &mut BTreeMap<String, Vec<u8>>,
+    alloc: Global,
+    name: &str,
+    bytes: &[u8],
+) -> Result<(), AllocError>
     ensures ok { OnOk result (option_map (λ bytes. bytes.items) (get_by_text files.new name.now) ≡ Some bytes.now) }
     ensures others { (other : List ℕ) → other ≢ name.now → get_by_text files.new other ≡ get_by_text files.old other }
     ensures err { OnErr result ((other : List ℕ) → get_by_text files.new other ≡ get_by_text files.old other) }

@@ -32,7 +32,11 @@ fn line_feeds(bytes: &[u8]) -> usize
 fn behind_line_feed(bytes: &[u8]) -> usize
     ensures { result ≡ length (take_while (λ byte. not (byte == 10)) (reverse bytes.now)) }
 {
-    bytes.iter().rev().take_while(|byte| **byte != b'\n').count()
+    bytes
+        .iter()
+        .rev()
+        .take_while(|byte| **byte != b'\n')
+        .count()
 }
 
 /// `n + 1`, or the greatest number of 32 bits.
