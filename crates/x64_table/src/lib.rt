@@ -2,6 +2,12 @@
 //! after the Intel 64 manual, volume 2.
 #![tactic(auto)]
 
+mod cpu;
 mod image;
+mod instr;
+mod reg;
 
+pub use cpu::{Cpu, Flags, Stepped};
 pub use image::{Code, Image, Segment, Sizes};
+pub use instr::{ArithOp, Cond, Instr, ShiftOp};
+pub use reg::Reg;
