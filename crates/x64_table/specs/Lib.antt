@@ -1,3 +1,4 @@
+pub mod Agreement
 pub mod Encoding
 pub mod Kernel
 pub mod Machine
