@@ -1,0 +1,55 @@
+-- The program in machine code that writes texts in order and then exits, and what it means.
+use Rattle.std.specs.Prelude.{ℕ, ◌+◌, ◌==◌, if◌then◌else◌, List, [], ◌∷◌, ◌++◌, length, map, flat_map, pos, negsuc}
+use Rattle.x64_table.specs.declared.image.Code.{Code}
+use Rattle.x64_table.specs.declared.instr.ArithOp.TheVariants.{Add, Sub, Cmp}
+use Rattle.x64_table.specs.declared.instr.Cond.TheVariants.{E, NE, A}
+use Rattle.x64_table.specs.declared.instr.Instr.{Instr}
+use Rattle.x64_table.specs.declared.instr.Instr.TheVariants.{MovImm, Arith, ArithImm, Test, Jump, JumpIf, Syscall}
+use Rattle.x64_table.specs.Agreement.{Meant, Ends}
+use Rattle.x64_table.specs.Encoding.{encoding}
+
+-- ---- what the program means
+
+-- these bytes on channel 1
+abbrev pub on_1 : List ℕ → List (ℕ × ℕ)
+on_1 bytes = map (λ byte. (1, byte)) bytes
+
+-- the texts, one after another
+abbrev pub joined : List (List ℕ) → List ℕ
+joined texts = flat_map (λ text. text) texts
+
+-- it writes the texts on channel 1 and ends with the status 0, whatever the bound
+abbrev pub prints : List (List ℕ) → ℕ → Meant
+prints texts bound = record { ending = Ends 0; out = on_1 (joined texts) }
+
+-- ---- the program
+
+-- the program ends with a status
+abbrev pub exit_with : ℕ → List Instr
+exit_with status = MovImm 0 60 ∷ MovImm 7 status ∷ Syscall ∷ []
+
+-- n bytes from a place on are written: each write asks for all that is left. A write that a signal
+-- broke off (-4, EINTR) is tried again, and one that is refused otherwise ends the program
+abbrev pub write_loop : ℕ → ℕ → List Instr
+write_loop place n =
+    MovImm 6 place ∷ MovImm 2 n
+    ∷ MovImm 0 1 ∷ MovImm 7 1 ∷ Syscall
+    ∷ ArithImm Cmp 0 (negsuc 3) ∷ JumpIf E (negsuc 34)
+    ∷ Test 0 0 ∷ JumpIf E (pos 26)
+    ∷ Arith Cmp 0 2 ∷ JumpIf A (pos 17)
+    ∷ Arith Add 6 0 ∷ Arith Sub 2 0 ∷ JumpIf NE (negsuc 64)
+    ∷ Jump (pos 22)
+    ∷ exit_with 104
+
+-- a text of no bytes is not asked for
+abbrev pub write_of : ℕ → ℕ → List Instr
+write_of place n = if n == 0 then [] else write_loop place n
+
+-- the texts lie one after another from a place on
+abbrev pub rows_of : ℕ → List (List ℕ) → List Instr
+rows_of place [] = exit_with 0
+rows_of place (text ∷ texts) = write_of place (length text) ++ rows_of (place + length text) texts
+
+-- the code with its literals, which lie at the literals' place in the image
+abbrev pub printer_of : List (List ℕ) → Code
+printer_of texts = record { bytes = flat_map encoding (rows_of 0x4000_0000 texts); literals = joined texts }

@@ -1,0 +1,2 @@
+//! The compiler as a whole: from the words of a command to the image that runs.
+#![tactic(auto)]
