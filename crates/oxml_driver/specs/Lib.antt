@@ -1,1 +1,4 @@
 pub mod Printer
+pub mod Reading
+pub mod Source
+pub mod Words
