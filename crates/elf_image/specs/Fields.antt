@@ -1,5 +1,5 @@
 -- The fields of an ELF-64 file. Numbers stand with their low byte first (ELF-64 object file format, "Data representation").
-use Rattle.std.specs.Prelude.{ℕ, ◌+◌, ◌-◌, ◌*◌, Bool, ◌==◌, List, [], ◌∷◌, ◌++◌, length, drop, replicate}
+use Rattle.std.specs.Prelude.{ℕ, ◌+◌, ◌-◌, ◌*◌, Bool, ◌==◌, List, [], ◌∷◌, ◌++◌, length, drop, replicate, flat_map}
 use Rattle.std.specs.Int.{w16, w32, w64, to_le_bytes, from_le_bytes}
 use Rattle.elf_image.specs.declared.header.ProgramHeader.{ProgramHeader}
 
@@ -34,7 +34,7 @@ header_place n = 64 + 56 * n
 -- Elf64_Phdr, written: p_type, p_flags, p_offset, p_vaddr, p_paddr, p_filesz, p_memsz, p_align
 abbrev pub program_header : ProgramHeader → List ℕ
 program_header h =
-    word h.kind ++ (word h.flags ++ (xword h.offset ++ (xword h.address ++ (xword h.address ++ (xword h.file_size ++ (xword h.memory_size ++ xword 0x1000))))))
+    word h.kind ++ (word h.flags ++ flat_map xword (h.offset ∷ h.address ∷ h.address ∷ h.file_size ∷ h.memory_size ∷ 0x1000 ∷ []))
 
 -- Elf64_Phdr, read from the front of the bytes
 abbrev pub read_header : List ℕ → ProgramHeader

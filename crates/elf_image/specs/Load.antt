@@ -1,5 +1,5 @@
 -- How an executable file is loaded, after the ELF-64 object file format, "File header" and "Program header table": the first test that fails, or else the image.
-use Rattle.std.specs.Prelude.{ℕ, zero, suc, ◌+◌, ◌*◌, ◌^◌, ◌%◌, Bool, not, ◌&&◌, ◌==◌, nat_lt, nat_le, nat_eq, if◌then◌else◌, List, [], ◌∷◌, length, take, drop, map, find, slice_index, Option, Some, None, Result, Ok, Err}
+use Rattle.std.specs.Prelude.{◌≡◌, ℕ, zero, suc, ◌+◌, ◌*◌, ◌^◌, ◌%◌, Bool, true, false, not, ◌&&◌, ◌==◌, nat_lt, nat_le, nat_eq, if◌then◌else◌, List, [], ◌∷◌, length, take, drop, map, find, slice_index, Option, Some, None, Result, Ok, Err}
 use Rattle.std.specs.List.{range_with_len, list_any, starts_with}
 use Rattle.x64_table.specs.declared.image.Image.{Image}
 use Rattle.x64_table.specs.declared.image.Segment.{Segment}
@@ -92,14 +92,6 @@ abbrev pub loaded_unless : Option ℕ → List ℕ → Result Image ImageErr
 loaded_unless None bytes = entered (image_at bytes)
 loaded_unless (Some n) bytes = Err (RefusedSegment n)
 
--- the segments, or the number of the first that cannot be loaded
-abbrev pub segments_unless : Option ℕ → List ℕ → Result (List Segment) ImageErr
-segments_unless None bytes = Ok (image_at bytes).segments
-segments_unless (Some n) bytes = Err (RefusedSegment n)
-
-abbrev pub segment_if : Bool → List ℕ → ℕ → Result Segment ImageErr
-segment_if b bytes n = if b then Ok (segment_at bytes n) else Err (RefusedSegment n)
-
 -- the first test that fails, in this order; the image where none does
 unfoldable pub loaded : List ℕ → Result Image ImageErr
 loaded bytes =
@@ -107,3 +99,16 @@ loaded bytes =
     else (if not (is_elf bytes) then Err Magic
     else (if not (is_kind bytes) then Err Kind
     else loaded_unless (refused_segment bytes) bytes))
+
+-- what the loader knows after each program header, and after all
+abbrev pub IsGood : List ℕ → ℕ → Segment → Type 0
+IsGood bytes n segment = (is_good bytes n ≡ true) × (segment ≡ segment_at bytes n)
+
+abbrev pub IsBad : List ℕ → ℕ → ImageErr → Type 0
+IsBad bytes n e = (is_good bytes n ≡ false) × (e ≡ RefusedSegment n)
+
+abbrev pub IsAllGood : List ℕ → List Segment → Type 0
+IsAllGood bytes segments = (refused_segment bytes ≡ None) × (segments ≡ (image_at bytes).segments)
+
+abbrev pub IsFirstBad : List ℕ → ImageErr → Type 0
+IsFirstBad bytes e = (n : ℕ) × (refused_segment bytes ≡ Some n) × (e ≡ RefusedSegment n)

@@ -1,6 +1,6 @@
 //! The numbers of an ELF-64 file, and its program headers, each read at a place of the file.
 ghost use Rattle.std.specs.Prelude.{◌≡◌, ◌+◌, ◌≤◌, length};
-ghost use Rattle.elf_image.specs.Fields.{half_at, word_at, xword_at, read_header};
+ghost use Rattle.elf_image.specs.Fields.{half_at, word_at, xword_at, read_header, header_at, header_place};
 
 use crate::header::ProgramHeader;
 
@@ -33,8 +33,16 @@ pub fn xword_at(bytes: &[u8], place: usize) -> u64
     ])
 }
 
+/// The program header of number `n`.
+pub fn header_at(bytes: &[u8], n: u16) -> ProgramHeader
+    requires { header_place (n + 1) ≤ length bytes.now }
+    ensures { result ≡ header_at bytes.now n }
+{
+    read_header(&bytes[64 + 56 * n as usize..])
+}
+
 /// The program header that the bytes begin with.
-pub fn read_header(bytes: &[u8]) -> ProgramHeader
+fn read_header(bytes: &[u8]) -> ProgramHeader
     requires { 56 ≤ length bytes.now }
     ensures { result ≡ read_header bytes.now }
 {

@@ -3,11 +3,11 @@ ghost use Rattle.std.specs.Prelude.{◌≡◌, ◌≢◌, ◌+◌, ◌≤◌, �
 ghost use Rattle.std.specs.List.{list_any};
 ghost use Rattle.elf_image.specs.declared.error.ImageErr.TheVariants.{NoMemory as OutOfMemory, Segment as RefusedSegment};
 ghost use Rattle.elf_image.specs.Fields.{header_place};
-ghost use Rattle.elf_image.specs.Load.{is_elf, has_ident, has_machine, has_count, has_tables, is_kind, header_count, end_before, is_in_file, has_flags, has_room, is_behind, is_good_header, is_good, segment_by, segment_at, can_run, image_at, entered, loaded_unless, refused_segment, segments_unless, segment_if, loaded};
+ghost use Rattle.elf_image.specs.Load.{is_elf, has_ident, has_machine, has_count, has_tables, is_kind, header_count, end_before, is_in_file, has_flags, has_room, is_behind, is_good_header, is_good, segment_by, segment_at, can_run, image_at, entered, loaded_unless, refused_segment, IsGood, IsBad, IsAllGood, IsFirstBad, loaded};
 ghost use Rattle.elf_image.specs.Loadable.{IsLoadable};
 
 use crate::error::ImageErr;
-use crate::fields::{half_at, read_header, word_at, xword_at};
+use crate::fields::{half_at, header_at, word_at, xword_at};
 use crate::header::ProgramHeader;
 use oxml_base::Items;
 use std::alloc::{AllocError, Global};
@@ -90,7 +90,8 @@ fn has_count(bytes: &[u8]) -> bool
 fn read_segments(alloc: Global, bytes: &[u8]) -> Result<Items<Segment>, ImageErr>
     requires long { 64 ≤ length bytes.now }
     requires few { header_count bytes.now ≤ 8 }
-    ensures { result ≢ Err OutOfMemory → result ≡ segments_unless (refused_segment bytes.now) bytes.now }
+    ensures all { IfOk result (λ segments. IsAllGood bytes.now segments) }
+    ensures refused { IfErr result (λ e. e ≢ OutOfMemory → IsFirstBad bytes.now e) }
 {
     let mut segments = Items::new(alloc);
     let mut end = 0;
@@ -107,13 +108,13 @@ fn read_segment(alloc: Global, bytes: &[u8], n: u16, end: u64) -> Result<Segment
     requires long { 64 ≤ length bytes.now }
     requires few { n < 8 }
     requires before { end ≡ end_before bytes.now n }
-    ensures { result ≢ Err OutOfMemory → result ≡ segment_if (is_good bytes.now n) bytes.now n }
+    ensures good { IfOk result (λ segment. IsGood bytes.now n segment) }
+    ensures refused { IfErr result (λ e. e ≢ OutOfMemory → IsBad bytes.now n e) }
 {
-    let place = 64 + 56 * usize::from(n);
-    if bytes.len() < place + 56 {
+    if bytes.len() < 64 + 56 * (n as usize + 1) {
         return Err(ImageErr::Segment(n));
     }
-    let header = read_header(&bytes[place..]);
+    let header = header_at(bytes, n);
     if !is_good_header(bytes.len() as u64, end, &header) {
         return Err(ImageErr::Segment(n));
     }
@@ -136,7 +137,6 @@ fn segment_by(alloc: Global, bytes: &[u8], h: &ProgramHeader) -> Result<Segment,
 }
 
 fn is_good_header(len: u64, end: u64, h: &ProgramHeader) -> bool
-    requires { end ≤ 2 ^ 47 }
     ensures { result ≡ is_good_header len end h.now }
 {
     is_in_file(len, h) && has_flags(h) && has_room(h) && is_behind(end, h)

@@ -75,12 +75,24 @@ fn write_header(file: &mut Vec<u8>, h: &ProgramHeader) -> Result<(), NoMemory>
 {
     write_word(file, h.kind)?;
     write_word(file, h.flags)?;
-    write_xword(file, h.offset)?;
-    write_xword(file, h.address)?;
-    write_xword(file, h.address)?;
-    write_xword(file, h.file_size)?;
-    write_xword(file, h.memory_size)?;
-    write_xword(file, 0x1000)
+    let numbers = [
+        h.offset,
+        h.address,
+        h.address,
+        h.file_size,
+        h.memory_size,
+        0x1000,
+    ];
+    write_xwords(file, &numbers)
+}
+
+fn write_xwords(file: &mut Vec<u8>, numbers: &[u64]) -> Result<(), NoMemory>
+    ensures { OnOk result (file.new.items ≡ file.old.items ++ flat_map xword numbers.now) }
+{
+    for n in numbers {
+        write_xword(file, *n)?;
+    }
+    Ok(())
 }
 
 fn write_word(file: &mut Vec<u8>, n: u32) -> Result<(), NoMemory>
