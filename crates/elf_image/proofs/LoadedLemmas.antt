@@ -16,7 +16,7 @@ cond_true b x y e = ap (λ c. cond c x y) e
 cond_false : {A : Type 0} (b : Bool) (x y : A) → b ≡ false → cond b x y ≡ y
 cond_false b x y e = ap (λ c. cond c x y) e
 
-lt_true : (a b : ℕ) → a < b → nat_lt a b ≡ true
+pub lt_true : (a b : ℕ) → a < b → nat_lt a b ≡ true
 lt_true a b h = grind (arith, nat_tests)
 
 lt_false : (a b : ℕ) → b ≤ a → nat_lt a b ≡ false
