@@ -5,3 +5,4 @@ pub mod Laid
 pub mod Parts
 pub mod Written
 pub mod Memory
+pub mod Writing

@@ -1,5 +1,5 @@
 //! Writes the executable file of a code.
-ghost use Rattle.std.specs.Prelude.{◌≡◌, ◌++◌, ◌≤◌, length, IfOk, OnOk, Ok, flat_map};
+ghost use Rattle.std.specs.Prelude.{◌≡◌, ◌++◌, ◌≤◌, ◌-◌, length, replicate, IfOk, OnOk, Ok, flat_map};
 ghost use Rattle.x64_table.specs.declared.image.Code.{Code};
 ghost use Rattle.x64_table.specs.declared.image.Sizes.{Sizes};
 ghost use Rattle.elf_image.specs.Fields.{word, xword, padded, program_header};
@@ -28,11 +28,10 @@ pub fn write_image(alloc: Global, c: &Code, sizes: Sizes) -> Result<Vec<u8>, NoM
     let mut file = Vec::with_capacity(alloc, place + c.literals.len().max(8))?;
     file.extend_from_slice(&file_header(headers.len() as u16))?;
     write_headers(&mut file, headers.as_slice())?;
-    file.resize(0x1000, 0)?;
+    pad(&mut file, 0x1000)?;
     file.extend_from_slice(c.bytes.as_slice())?;
-    file.resize(place, 0)?;
-    file.extend_from_slice(c.literals.as_slice())?;
-    file.resize(place + c.literals.len().max(8), 0)?;
+    pad(&mut file, place)?;
+    write_data(&mut file, c.literals.as_slice())?;
     Ok(file)
 }
 
@@ -106,5 +105,27 @@ fn write_xword(file: &mut Vec<u8>, n: u64) -> Result<(), NoMemory>
     ensures { OnOk result (file.new.items ≡ file.old.items ++ xword n) }
 {
     file.extend_from_slice(&n.to_le_bytes())?;
+    Ok(())
+}
+
+/// Adds zeros up to a length of `n` bytes.
+#[tactic(auto, unfolding(crate::specs::Fields::padded))]
+fn pad(file: &mut Vec<u8>, n: usize) -> Result<(), NoMemory>
+    ensures { OnOk result (file.new.items ≡ padded n file.old.items) }
+{
+    if file.len() < n {
+        file.resize(n, 0)?;
+    }
+    Ok(())
+}
+
+/// Adds the literals and top-level slots, at least 8 bytes.
+fn write_data(file: &mut Vec<u8>, literals: &[u8]) -> Result<(), NoMemory>
+    ensures { OnOk result
+        (file.new.items ≡ file.old.items ++ (literals.now ++ replicate (8 - length literals.now) 0)) }
+{
+    file.extend_from_slice(literals)?;
+    let missing = 8usize.saturating_sub(literals.len());
+    file.resize(file.len() + missing, 0)?;
     Ok(())
 }
