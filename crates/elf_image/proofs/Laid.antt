@@ -31,12 +31,12 @@ pub read_header-program_header : (h : ProgramHeader) (more : List ℕ) → IsFit
 unfolding header_with
 read_header-program_header h more fits =
     same_header _ _ _ _ _ _ h.kind h.flags h.offset h.address h.file_size h.memory_size
-      (from_le_bytes-to_le_bytes_4 h.kind fits.kind)
-      (from_le_bytes-to_le_bytes_4 h.flags fits.flags)
-      (from_le_bytes-to_le_bytes_8 h.offset fits.offset)
-      (from_le_bytes-to_le_bytes_8 h.address fits.address)
-      (from_le_bytes-to_le_bytes_8 h.file_size fits.file_size)
-      (from_le_bytes-to_le_bytes_8 h.memory_size fits.memory_size)
+    (from_le_bytes-to_le_bytes_4 h.kind fits.kind)
+    (from_le_bytes-to_le_bytes_4 h.flags fits.flags)
+    (from_le_bytes-to_le_bytes_8 h.offset fits.offset)
+    (from_le_bytes-to_le_bytes_8 h.address fits.address)
+    (from_le_bytes-to_le_bytes_8 h.file_size fits.file_size)
+    (from_le_bytes-to_le_bytes_8 h.memory_size fits.memory_size)
 
 -- it takes 56 bytes
 pub drop-program_header : (h : ProgramHeader) (more : List ℕ) → drop 56 (program_header h ++ more) ≡ more
@@ -64,9 +64,9 @@ test_eq a b e = grind (arith, nat_tests)
 pub is_good_header-true : (len end : ℕ) (h : ProgramHeader) → IsGoodHeader len end h → is_good_header len end h ≡ true
 is_good_header-true len end h g =
     and_true (is_in_file len h) _ (and_true (nat_le (h.offset + h.file_size) len) _ (test_le (h.offset + h.file_size) len g.in_file) (test_eq h.kind 1 g.kind))
-      (and_true (has_flags h) _ (and_true (nat_le 4 h.flags) _ (test_le 4 h.flags g.low_flag) (test_le h.flags 6 g.high_flag))
-        (and_true (has_room h) _ (and_true (nat_le h.file_size h.memory_size) _ (test_le h.file_size h.memory_size g.filled) (test_le h.memory_size (2 ^ 30) g.size))
-          (and_true (nat_le (end_of h) (2 ^ 47)) _ (test_le (end_of h) (2 ^ 47) g.low) (test_le end h.address g.behind))))
+    (and_true (has_flags h) _ (and_true (nat_le 4 h.flags) _ (test_le 4 h.flags g.low_flag) (test_le h.flags 6 g.high_flag))
+    (and_true (has_room h) _ (and_true (nat_le h.file_size h.memory_size) _ (test_le h.file_size h.memory_size g.filled) (test_le h.memory_size (2 ^ 30) g.size))
+    (and_true (nat_le (end_of h) (2 ^ 47)) _ (test_le (end_of h) (2 ^ 47) g.low) (test_le end h.address g.behind))))
 
 -- the headers from number n on, as they stand in the file
 pub record IsRead (bytes : List ℕ) (n : ℕ) (headers : List ProgramHeader) : Type 0 where
@@ -79,7 +79,7 @@ IsRead-next bytes n h rest good header_is read =
     record {
       refused = ap (λ b. cond b (Some n) (find (λ k. not (is_good bytes k)) (range_with_len (n + 1) (length rest)))) (not_true (is_good bytes n) good) ∙ read.refused;
       segments = ap (λ x. segment_by bytes x ∷ map (segment_at bytes) (range_with_len (n + 1) (length rest))) header_is ∙ ap (λ xs. segment_by bytes h ∷ xs) read.segments;
-      }
+    }
 
 next_place : (n : ℕ) → header_place (n + 1) ≡ header_place n + 56
 next_place n = omega arith
@@ -98,8 +98,8 @@ IsRead-written bytes n (h ∷ rest) more stands laid =
     let here : drop (header_place n) bytes ≡ program_header h ++ tail = stands ∙ append_assoc (program_header h) (flat_map program_header rest) more in
     let header_is : header_at bytes n ≡ h = ap read_header here ∙ read_header-program_header h tail laid.1 in
     let good : is_good bytes n ≡ true =
-        and_true (nat_le (header_place (n + 1)) (length bytes)) _ (test_le (header_place (n + 1)) (length bytes) (header_within bytes n h tail here))
-          (subst (λ (x : ProgramHeader). is_good_header (length bytes) (end_before bytes n) x ≡ true) (sym header_is) laid.0) in
+    and_true (nat_le (header_place (n + 1)) (length bytes)) _ (test_le (header_place (n + 1)) (length bytes) (header_within bytes n h tail here))
+    (subst (λ (x : ProgramHeader). is_good_header (length bytes) (end_before bytes n) x ≡ true) (sym header_is) laid.0) in
     let next : drop (header_place (n + 1)) bytes ≡ tail = ap (λ k. drop k bytes) (next_place n) ∙ (sym (drop-drop 56 (header_place n) bytes) ∙ (ap (drop 56) here ∙ drop-program_header h tail)) in
     let next_laid = subst (λ (e : ℕ). AreLaid (length bytes) e rest) (sym (end_before-next bytes n ∙ ap end_of header_is)) laid.2 in
     IsRead-next bytes n h rest good header_is (IsRead-written bytes (n + 1) rest more next next_laid)

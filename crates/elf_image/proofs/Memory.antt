@@ -29,16 +29,16 @@ words_good : (len end at n : ℕ) → IsPart end at n → is_good_header len end
 unfolding words
 words_good len end at n part =
     is_good_header-true len end (words at n)
-      (record {
-        in_file = omega arith;
-        kind = refl;
-        low_flag = omega arith;
-        high_flag = omega arith;
-        filled = omega arith;
-        size = omega (arith, part.few);
-        low = omega (arith, part.few, part.low);
-        behind = part.behind;
-        })
+    (record {
+      in_file = omega arith;
+      kind = refl;
+      low_flag = omega arith;
+      high_flag = omega arith;
+      filled = omega arith;
+      size = omega (arith, part.few);
+      low = omega (arith, part.few, part.low);
+      behind = part.behind;
+    })
 
 words_fit : (end at n : ℕ) → IsPart end at n → IsFitting (words at n)
 unfolding words
@@ -50,7 +50,7 @@ words_fit end at n part =
       address = omega (arith, part.low);
       file_size = omega arith;
       memory_size = omega (arith, part.few);
-      }
+    }
 
 laid_if : (b : Bool) (len end : ℕ) (h : ProgramHeader) (rest : List ProgramHeader) → is_good_header len end h ≡ true → IsFitting h → AreLaid len end rest → AreLaid len (end_of h) rest → AreLaid len end (cond b [] (h ∷ []) ++ rest)
 laid_if true len end h rest good fits without behind = without
@@ -123,16 +123,16 @@ code_good : (c : Code) (z : Sizes) → IsWritable c z → (len : ℕ) → len �
 unfolding code_header
 code_good c z w len len_is =
     is_good_header-true len 0 (code_header c)
-      (record {
-        in_file = omega (arith, len_is, data_place_behind c);
-        kind = refl;
-        low_flag = omega arith;
-        high_flag = omega arith;
-        filled = omega arith;
-        size = omega (arith, w.code);
-        low = omega (arith, w.code);
-        behind = omega arith;
-        })
+    (record {
+      in_file = omega (arith, len_is, data_place_behind c);
+      kind = refl;
+      low_flag = omega arith;
+      high_flag = omega arith;
+      filled = omega arith;
+      size = omega (arith, w.code);
+      low = omega (arith, w.code);
+      behind = omega arith;
+    })
 
 code_fits : (c : Code) (z : Sizes) → IsWritable c z → IsFitting (code_header c)
 unfolding code_header
@@ -143,16 +143,16 @@ unfolding code_header data_header
 data_good c z w len len_is =
     let long = length-data_of c in
     is_good_header-true len (end_of (code_header c)) (data_header c)
-      (record {
-        in_file = omega (arith, len_is);
-        kind = refl;
-        low_flag = omega arith;
-        high_flag = omega arith;
-        filled = omega arith;
-        size = omega (arith, long, w.literals);
-        low = omega (arith, long, w.literals);
-        behind = omega (arith, w.code);
-        })
+    (record {
+      in_file = omega (arith, len_is);
+      kind = refl;
+      low_flag = omega arith;
+      high_flag = omega arith;
+      filled = omega arith;
+      size = omega (arith, long, w.literals);
+      low = omega (arith, long, w.literals);
+      behind = omega (arith, w.code);
+    })
 
 data_fits : (c : Code) (z : Sizes) → IsWritable c z → IsFitting (data_header c)
 unfolding data_header
@@ -165,15 +165,15 @@ data_fits c z w =
       address = omega arith;
       file_size = omega (arith, long, w.literals);
       memory_size = omega (arith, long, w.literals);
-      }
+    }
 
 -- the area and both stacks, behind the data
 laid_words : (z : Sizes) (len end : ℕ) → end ≤ 0x1_0000_0000 → z.area ≤ 134_217_728 → z.local ≤ 134_217_728 → z.stack ≤ 134_217_728
     → AreLaid len end (words_header 0x1_0000_0000 z.area ++ (words_header 0x2_0000_0000 z.local ++ words_header 0x3_0000_0000 z.stack))
 laid_words z len end low area local stack =
     AreLaid-words len end 0x1_0000_0000 z.area (words_header 0x2_0000_0000 z.local ++ words_header 0x3_0000_0000 z.stack) (record { behind = low; few = area; low = omega arith })
-      (λ e e_low. AreLaid-words len e 0x2_0000_0000 z.local (words_header 0x3_0000_0000 z.stack) (record { behind = omega (arith, e_low); few = local; low = omega arith })
-        (λ f f_low. AreLaid-last len f 0x3_0000_0000 z.stack (record { behind = omega (arith, f_low); few = stack; low = omega arith })))
+    (λ e e_low. AreLaid-words len e 0x2_0000_0000 z.local (words_header 0x3_0000_0000 z.stack) (record { behind = omega (arith, e_low); few = local; low = omega arith })
+    (λ f f_low. AreLaid-last len f 0x3_0000_0000 z.stack (record { behind = omega (arith, f_low); few = stack; low = omega arith })))
 
 laid : (c : Code) (z : Sizes) → IsWritable c z → (len : ℕ) → len ≡ data_place c + length (data_of c) → AreLaid len 0 (headers_of c z)
 unfolding code_header data_header

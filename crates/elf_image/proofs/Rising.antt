@@ -24,7 +24,7 @@ segment_tested bytes end h e =
       low_flag = le_test 4 h.flags (and_left (nat_le 4 h.flags) _ flags);
       high_flag = le_test h.flags 6 (and_right (nat_le 4 h.flags) _ flags);
       low = le_test (end_of h) (2 ^ 47) (and_left (nat_le (end_of h) (2 ^ 47)) _ behind);
-      }
+    }
 
 first_good : (b : Bool) (n : ℕ) (rest : Option ℕ) → cond (not b) (Some n) rest ≡ None → (b ≡ true) × (rest ≡ None)
 first_good true n rest e = (refl, e)
@@ -36,10 +36,11 @@ AreRising-read bytes n (suc m) e =
     let first = first_good (is_good bytes n) n (find (λ k. not (is_good bytes k)) (range_with_len (n + 1) m)) e in
     let h = header_at bytes n in
     let tested = header_tested bytes n first.0 in
-    let behind = behind_tested (length bytes) (end_before bytes n) h tested in
-    ( segment_tested bytes (end_before bytes n) h tested
-    , le_test (end_before bytes n) h.address (and_right (nat_le (end_of h) (2 ^ 47)) _ behind)
-    , subst (λ (end : ℕ). AreRising end (map (segment_at bytes) (range_with_len (n + 1) m))) (end_before-next bytes n) (AreRising-read bytes (n + 1) m first.1))
+    let behind = behind_tested (length bytes) (end_before bytes n) h tested in (
+      segment_tested bytes (end_before bytes n) h tested,
+      le_test (end_before bytes n) h.address (and_right (nat_le (end_of h) (2 ^ 47)) _ behind),
+      subst (λ (end : ℕ). AreRising end (map (segment_at bytes) (range_with_len (n + 1) m))) (end_before-next bytes n) (AreRising-read bytes (n + 1) m first.1),
+    )
 
 -- a segment that can be run has the flags 5
 CanRun-tested : (at : ℕ) (s : Segment) → IsSegment s → can_run at s ≡ true → CanRun at s
@@ -50,10 +51,11 @@ CanRun-tested at s limits e =
       executable = omega (arith, odd, limits.low_flag, limits.high_flag);
       from = le_test s.at at (and_left (nat_le s.at at) _ inside);
       below = lt_test at (s.at + s.size) (and_right (nat_le s.at at) _ inside);
-      }
+    }
   where
     eq_test : (a b : ℕ) → (a == b) ≡ true → a ≡ b
     eq_test a b h = grind (arith, nat_tests)
+
     lt_test : (a b : ℕ) → nat_lt a b ≡ true → a < b
     lt_test a b h = grind (arith, nat_tests)
 
@@ -74,7 +76,7 @@ IsLoadable-read bytes few good runs =
       rising = rising;
       few = omega (arith, few, length-map-range_with_len (segment_at bytes) 0 (header_count bytes));
       entry = one_runs (xword_at bytes 24) 0 (image_at bytes).segments rising runs;
-      }
+    }
 
 -- a file of the right kind has at most eight program headers
 pub count_tested : (bytes : List ℕ) → is_kind bytes ≡ true → header_count bytes ≤ 8

@@ -28,7 +28,7 @@ headed n more some few =
       count = header_count-header n more few;
       entry = entry-header n more;
       behind = drop-header n more;
-      }
+    }
 
 -- a file whose program headers can be loaded, the first executable segment with the entry among them, loads to their segments
 pub loaded-file_with : (headers : List ProgramHeader) (code : List ℕ) (place : ℕ) (content : List ℕ) → 1 ≤ length headers → length headers ≤ 8

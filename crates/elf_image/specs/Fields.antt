@@ -39,13 +39,13 @@ program_header h =
 -- Elf64_Phdr, read from the front of the bytes
 abbrev pub read_header : List ℕ → ProgramHeader
 read_header bytes = record {
-    kind = word_at bytes 0;
-    flags = word_at bytes 4;
-    offset = xword_at bytes 8;
-    address = xword_at bytes 16;
-    file_size = xword_at bytes 32;
-    memory_size = xword_at bytes 40;
-    }
+  kind = word_at bytes 0;
+  flags = word_at bytes 4;
+  offset = xword_at bytes 8;
+  address = xword_at bytes 16;
+  file_size = xword_at bytes 32;
+  memory_size = xword_at bytes 40;
+}
 
 -- the program header of this number
 abbrev pub header_at : List ℕ → ℕ → ProgramHeader

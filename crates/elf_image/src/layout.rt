@@ -16,11 +16,7 @@ pub fn data_place(c: &Code) -> usize
 }
 
 /// The program headers of a made program, in the order of the addresses.
-pub fn headers_of(
-    alloc: Global,
-    c: &Code,
-    sizes: Sizes,
-) -> Result<Vec<ProgramHeader>, NoMemory>
+pub fn headers_of(alloc: Global, c: &Code, sizes: Sizes) -> Result<Vec<ProgramHeader>, NoMemory>
     requires { IsWritable c.now sizes }
     ensures { IfOk result (λ headers. headers.items ≡ headers_of c.now sizes) }
 {

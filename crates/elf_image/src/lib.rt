@@ -7,6 +7,8 @@ mod fields;
 mod header;
 mod layout;
 mod loader;
+#[cfg(test)]
+mod tests;
 mod write;
 
 pub use error::ImageErr;

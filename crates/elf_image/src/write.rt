@@ -38,8 +38,7 @@ pub fn write_image(alloc: Global, c: &Code, sizes: Sizes) -> Result<Vec<u8>, NoM
 /// What was written loads: the file of a code and its sizes has the image of the code and its sizes.
 pub fn written_images_load()
     ensures { (c : Code) (z : Sizes) → IsWritable c z → loaded (file_of c z) ≡ Ok (image_of c z) }
-{
-}
+{}
 
 /// The header of an executable file with `count` program headers, which begin right behind it.
 fn file_header(count: u16) -> [u8; 64]

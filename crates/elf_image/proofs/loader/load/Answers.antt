@@ -21,8 +21,8 @@ returns-in_err-segments-clause-loaded c =
     let is_elf = sym c.is_elf.ensures ∙ c.if-not-is_elf.false in
     let is_kind = sym c.is_kind.ensures ∙ c.if-not-is_kind.false in
     rw (p.1, p.2) (λ other.
-      let bad = c.in_err-segments.ensures.refused (λ e. other (ap Err e)) in
-      ap Err bad.2 ∙ sym (loaded-refused c.args.bytes.now bad.0 c.if-bytes-lt64.false is_elf is_kind bad.1))
+    let bad = c.in_err-segments.ensures.refused (λ e. other (ap Err e)) in
+    ap Err bad.2 ∙ sym (loaded-refused c.args.bytes.now bad.0 c.if-bytes-lt64.false is_elf is_kind bad.1))
 
 pub returns-then-not-has_entry-clause-loaded : goal.returns-then-not-has_entry-clause-loaded
 returns-then-not-has_entry-clause-loaded c =

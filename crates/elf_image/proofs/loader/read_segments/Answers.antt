@@ -17,7 +17,7 @@ loop-n-init c =
           ap (λ (xs : List Segment). xs ++ map (segment_at bytes) (range_with_len 0 (header_count bytes - 0))) c.new-segments.ensures
           ∙ ap (λ k. map (segment_at bytes) (range_with_len 0 k)) e;
       end = refl;
-      }
+    }
 
 pub returns-in_err-segment-clause-refused : goal.returns-in_err-segment-clause-refused
 returns-in_err-segment-clause-refused c =
@@ -46,4 +46,4 @@ loop-n-preserved c =
           ap (λ (xs : List Segment). xs ++ map (segment_at bytes) (range_with_len (n + 1) (header_count bytes - (n + 1)))) (c.in_ok-push.ensures.ok ∙ ap (λ (s : Segment). c.loop-n.segments ++ s ∷ []) good.1)
           ∙ (map_next (segment_at bytes) c.loop-n.segments n (header_count bytes) more ∙ c.loop-n.invariant.segments);
       end = ap (λ (s : Segment). s.at + s.size) good.1 ∙ sym (end_before-next bytes n);
-      }
+    }
