@@ -1,2 +1,8 @@
+mod PrinterAnswers
+mod PrinterEnds
+mod PrinterLoop
+mod PrinterMemory
+mod PrinterRun
+mod PrinterTexts
 mod ReadingLemmas
 mod SourceLemmas
