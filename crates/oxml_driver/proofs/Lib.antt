@@ -1,3 +1,4 @@
+mod LineLemmas
 mod PrinterAnswers
 mod PrinterEnds
 mod PrinterLoop

@@ -1,6 +1,6 @@
 -- Reading finds the text that a source prints, exactly where it prints one.
 use Rattle.std.proofs.Common.{◌≡◌, ℕ, ◌||◌, ◌&&◌, ◌==◌, Bool, true, false, List, [], ◌∷◌, ◌++◌, length, drop, nat_eq, cond, Option, Some, None, refl, sym, ap, ◌∙◌, subst, append_assoc, option_map, MatchOption, IfSome}
-use Rattle.std.proofs.Common.{arith}
+use Rattle.std.proofs.Common.{◌≤◌, arith, length-append}
 use Rattle.std.proofs.lemmas.Bool.{eqb-true}
 use Rattle.std.proofs.lemmas.Bool.Decides.{Decides-eqb, nat_tests}
 use Rattle.std.proofs.lemmas.Slice.Eq.{starts_is}
@@ -219,3 +219,19 @@ found_tells bytes source (Some text) h = found_is_printed source (bytes text) (s
 pub found_alone : {X : Type 0} (bytes : X → List ℕ) (source : List ℕ) (found : Option X) → option_map bytes found ≡ printed_text source → IfSome found (λ text. (other : List ℕ) → Prints source other → other ≡ bytes text)
 found_alone bytes source None h = tt
 found_alone bytes source (Some text) h = λ other prints. let found = printed_is_found source other prints in cc
+
+-- a byte is spelled by one byte at least
+length-spelled_byte : (byte : ℕ) (feed : Bool) → (byte == 10) ≡ feed → 1 ≤ length (spelled_byte byte)
+length-spelled_byte byte true feed = rw feed (omega arith)
+length-spelled_byte byte false other = rw other (omega arith)
+
+length-spelled : (text : List ℕ) → length text ≤ length (spelled text)
+length-spelled [] = omega arith
+length-spelled (byte ∷ text) =
+    omega (arith, length-spelled text, length-spelled_byte byte (byte == 10) refl, length-append (spelled_byte byte) (spelled text))
+
+-- a text is no longer than the source that prints it
+pub text_is_short : (source text : List ℕ) → Prints source text → length text ≤ length source
+text_is_short source text prints =
+    let rest = spelled text ++ (34 ∷ prints.behind) in
+    omega (arith, ap length prints.split, length-append prints.before (item_front ++ rest), length-append item_front rest, length-append (spelled text) (34 ∷ prints.behind), length-spelled text)

@@ -1,3 +1,5 @@
+pub mod Build
+pub mod Lines
 pub mod Printer
 pub mod Reading
 pub mod Source

@@ -1,6 +1,8 @@
 //! The compiler as a whole: from the words of a command to the image that runs.
 #![tactic(auto)]
 
+mod compile;
+mod lines;
 mod printer;
 mod source;
 mod words;

@@ -1,0 +1,30 @@
+-- The lines that the command writes, each with its line feed.
+use Rattle.std.specs.Prelude.{ℕ, List, ◌++◌, take, codes, decimal}
+use Rattle.oxml_base.specs.declared.refusal.Refusal.{Refusal}
+use Rattle.oxml_base.specs.LineColumn.{line_behind, column_behind}
+use Rattle.oxml_base.specs.Rules.{rule_number, rule_text}
+
+abbrev pub usage_line : List ℕ
+usage_line = codes "usage: oxml build|check|run|sim|places|sample|sample-build\n"
+
+abbrev pub write_fault_line : List ℕ
+write_fault_line = codes "oxml: write fault\n"
+
+abbrev pub no_memory_line : List ℕ
+no_memory_line = codes "oxml: want of memory\n"
+
+abbrev pub read_fault_line : List ℕ → List ℕ
+read_fault_line file = codes "oxml: read fault: " ++ (file ++ codes "\n")
+
+abbrev pub bytes_limit_line : List ℕ → List ℕ
+bytes_limit_line file = file ++ codes ": limit bytes 1048577\n"
+
+-- a rule by its number and text, with a line and a column
+abbrev pub placed_line : List ℕ → ℕ → ℕ → ℕ → List ℕ → List ℕ
+placed_line file line column number text =
+    file ++ (codes ":" ++ (decimal line ++ (codes ":" ++ (decimal column ++ (codes ": rule " ++ (decimal number ++ (codes ": " ++ (text ++ codes "\n"))))))))
+
+-- the rule that a source violates, with the line and the column of the place
+abbrev pub refusal_line : List ℕ → List ℕ → Refusal → List ℕ
+refusal_line file source refusal =
+    placed_line file (line_behind (take refusal.span.start source)) (column_behind (take refusal.span.start source)) (rule_number refusal.rule) (rule_text refusal.rule)
