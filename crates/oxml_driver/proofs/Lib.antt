@@ -1,4 +1,5 @@
 mod CommandLemmas
+mod DecidedLemmas
 mod LineLemmas
 mod PrinterAnswers
 mod PrinterEnds
