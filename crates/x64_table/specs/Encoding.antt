@@ -1,7 +1,8 @@
 -- The bytes of each instruction, after the Intel 64 manual, volume 2, in one form each.
-use Rattle.std.specs.Prelude.{ℕ, ◌+◌, ◌*◌, ◌/◌, ◌%◌, ◌^◌, ◌<◌, Bool, true, List, [], ◌∷◌, length, ℤ, if◌then◌else◌, ◌==◌, nat_lt, nat_eq, slice_index, FitsSigned, Option, Some, None}
+use Rattle.std.specs.Prelude.{ℕ, ◌+◌, ◌-◌, ◌*◌, ◌/◌, ◌%◌, ◌^◌, ◌<◌, Bool, true, List, [], ◌∷◌, ◌++◌, length, ℤ, if◌then◌else◌, ◌==◌, nat_lt, nat_eq, slice_index, FitsSigned, replicate, Option, Some, None}
 use Rattle.std.specs.Int.{w32, w64, to_le_bytes, from_le_bytes, cast_signed, cast_unsigned}
 use Rattle.std.specs.List.{starts_with}
+pub use Rattle.x64_table.specs.Numbers.{register}
 use Rattle.x64_table.specs.declared.instr.ArithOp.{ArithOp}
 use Rattle.x64_table.specs.declared.instr.ArithOp.TheVariants.{Add, Or, And, Sub, Xor, Cmp}
 use Rattle.x64_table.specs.declared.instr.ShiftOp.{ShiftOp}
@@ -113,10 +114,6 @@ IsRow Syscall = Unit {0}
 
 -- ---- reading: the one row that can begin so is guessed, and then compared
 
--- a register number: its top bit, and its low three bits in a byte
-abbrev pub register : ℕ → ℕ → ℕ
-register high low = 8 * (high % 2) + low % 8
-
 -- the four bytes from k on, with sign
 abbrev pub signed_at : List ℕ → ℕ → ℤ
 signed_at bytes k =
@@ -227,3 +224,7 @@ is_row _ = true
 -- the row that the bytes begin with, and its length
 unfoldable pub decoded : List ℕ → Option (Instr × ℕ)
 decoded bytes = if is_row (guess bytes) then checked (guess bytes) bytes else None
+
+-- the bytes and zeros up to 15, and how many bytes there are
+abbrev pub padded : List ℕ → List ℕ × ℕ
+padded bytes = (bytes ++ replicate (15 - length bytes) 0, length bytes)

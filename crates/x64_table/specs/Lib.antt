@@ -2,3 +2,4 @@ pub mod Agreement
 pub mod Encoding
 pub mod Kernel
 pub mod Machine
+pub mod Numbers

@@ -3,11 +3,14 @@
 #![tactic(auto)]
 
 mod cpu;
+mod form;
 mod image;
 mod instr;
+mod reading;
 mod reg;
 
 pub use cpu::{Cpu, Flags, Stepped};
+pub use form::form_of;
 pub use image::{Code, Image, Segment, Sizes};
 pub use instr::{ArithOp, Cond, Instr, ShiftOp};
 pub use reg::Reg;
