@@ -1,5 +1,5 @@
-pub mod Decode
 pub mod Fetch
 pub mod Follow
 pub mod Formats
+pub mod Rows
 pub mod Runs

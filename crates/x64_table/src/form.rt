@@ -138,7 +138,12 @@ fn wide(a: u8, b: u8, imm: u64) -> Form
     ensures { result ≡ padded (a ∷ b ∷ to_le_bytes w64 imm) }
 {
     let d = imm.to_le_bytes();
-    ([a, b, d[0], d[1], d[2], d[3], d[4], d[5], d[6], d[7], 0, 0, 0, 0, 0], 10)
+    (
+        [
+            a, b, d[0], d[1], d[2], d[3], d[4], d[5], d[6], d[7], 0, 0, 0, 0, 0,
+        ],
+        10,
+    )
 }
 
 /// An operand in memory: behind the opcode come ModRM, the SIB byte where the base's low bits are
@@ -149,7 +154,10 @@ fn in_memory(a: u8, b: u8, r: Reg, base: Reg, disp: i32) -> Form
     let d = disp.to_le_bytes();
     let m = 0x80 + (8 * (r.number() % 8) + base.number() % 8);
     if base.number() % 8 == 4 {
-        ([a, b, m, 0x24, d[0], d[1], d[2], d[3], 0, 0, 0, 0, 0, 0, 0], 8)
+        (
+            [a, b, m, 0x24, d[0], d[1], d[2], d[3], 0, 0, 0, 0, 0, 0, 0],
+            8,
+        )
     } else {
         ([a, b, m, d[0], d[1], d[2], d[3], 0, 0, 0, 0, 0, 0, 0, 0], 7)
     }
@@ -162,7 +170,10 @@ fn in_memory_two(a: u8, b: u8, c: u8, r: Reg, base: Reg, disp: i32) -> Form
     let d = disp.to_le_bytes();
     let m = 0x80 + (8 * (r.number() % 8) + base.number() % 8);
     if base.number() % 8 == 4 {
-        ([a, b, c, m, 0x24, d[0], d[1], d[2], d[3], 0, 0, 0, 0, 0, 0], 9)
+        (
+            [a, b, c, m, 0x24, d[0], d[1], d[2], d[3], 0, 0, 0, 0, 0, 0],
+            9,
+        )
     } else {
         ([a, b, c, m, d[0], d[1], d[2], d[3], 0, 0, 0, 0, 0, 0, 0], 8)
     }
@@ -185,10 +196,19 @@ pub fn form_of(i: &Instr) -> Form
         }
         Instr::Lea { dst, base, disp } => in_memory(rex_w(*dst, *base), 0x8D, *dst, *base, *disp),
         Instr::Arith { op, dst, src } => {
-            of_three(rex_w(*src, *dst), 8 * arith_number(op) + 1, direct(*src, *dst))
+            of_three(
+                rex_w(*src, *dst),
+                8 * arith_number(op) + 1,
+                direct(*src, *dst),
+            )
         }
         Instr::ArithImm { op, dst, imm } => {
-            immediate(rex_alone(*dst), 0x81, extended(arith_number(op), *dst), *imm)
+            immediate(
+                rex_alone(*dst),
+                0x81,
+                extended(arith_number(op), *dst),
+                *imm,
+            )
         }
         Instr::Test { a, b } => of_three(rex_w(*b, *a), 0x85, direct(*b, *a)),
         Instr::Imul { dst, src } => of_four(rex_w(*dst, *src), 0x0F, 0xAF, direct(*dst, *src)),
@@ -196,7 +216,12 @@ pub fn form_of(i: &Instr) -> Form
         Instr::Neg { dst } => of_three(rex_alone(*dst), 0xF7, extended(3, *dst)),
         Instr::Idiv { src } => of_three(rex_alone(*src), 0xF7, extended(7, *src)),
         Instr::ShiftImm { op, dst, count } => {
-            of_four(rex_alone(*dst), 0xC1, extended(shift_number(op), *dst), *count)
+            of_four(
+                rex_alone(*dst),
+                0xC1,
+                extended(shift_number(op), *dst),
+                *count,
+            )
         }
         Instr::ShiftCl { op, dst } => {
             of_three(rex_alone(*dst), 0xD3, extended(shift_number(op), *dst))

@@ -13,4 +13,5 @@ pub use cpu::{Cpu, Flags, Stepped};
 pub use form::form_of;
 pub use image::{Code, Image, Segment, Sizes};
 pub use instr::{ArithOp, Cond, Instr, ShiftOp};
+pub use reading::decode;
 pub use reg::Reg;

@@ -1,6 +1,6 @@
 ghost use Rattle.std.specs.Prelude.{◌≡◌, ◌<◌, ◌≤◌, ◌+◌, IfSome, IfNone, slice_index};
 ghost use Rattle.x64_table.specs.Numbers.{register};
-ghost use Rattle.x64_table.specs.Encoding.{signed_at, wide_at_2, displacement, arith_of, arith_of_high, shift_of, cond_of, cond_of_high, cond_of_signed, guess, guess_move, guess_unary, guess_group, guess_high, guess_two, guess_one, guess_rex, guess_plain, is_row, decoded};
+ghost use Rattle.x64_table.specs.Encoding.{signed_at, wide_at_2, displacement, arith_of, arith_of_high, shift_of, cond_of, cond_of_high, cond_of_signed, guess, guess_move, guess_unary, guess_group, guess_high, guess_two, guess_one, guess_rex, guess_plain, is_row, length_at, read_row, decoded, ReadsRow, BeginsNoRow};
 
 use crate::form::form_of;
 use crate::instr::{ArithOp, Cond, Instr, ShiftOp};
@@ -18,7 +18,12 @@ fn signed_at(bytes: &[u8], k: usize) -> i32
     requires { k < 8 }
     ensures { result ≡ signed_at bytes.now k }
 {
-    i32::from_le_bytes([byte(bytes, k), byte(bytes, k + 1), byte(bytes, k + 2), byte(bytes, k + 3)])
+    i32::from_le_bytes([
+        byte(bytes, k),
+        byte(bytes, k + 1),
+        byte(bytes, k + 2),
+        byte(bytes, k + 3),
+    ])
 }
 
 /// The eight bytes from 2 on.
@@ -42,7 +47,11 @@ fn displacement(bytes: &[u8], k: usize) -> i32
     requires { k < 4 }
     ensures { result ≡ displacement bytes.now k }
 {
-    if byte(bytes, k) % 8 == 4 { signed_at(bytes, k + 2) } else { signed_at(bytes, k + 1) }
+    if byte(bytes, k) % 8 == 4 {
+        signed_at(bytes, k + 2)
+    } else {
+        signed_at(bytes, k + 1)
+    }
 }
 
 fn arith_of_high(n: u8) -> ArithOp
@@ -130,15 +139,31 @@ fn guess_move(bytes: &[u8], op: u8, r: Reg, b: Reg) -> Instr
     ensures { result ≡ guess_move bytes.now op r b }
 {
     if op == 0x8B {
-        Instr::Load { dst: r, base: b, disp: displacement(bytes, 2) }
+        Instr::Load {
+            dst: r,
+            base: b,
+            disp: displacement(bytes, 2),
+        }
     } else if op == 0x8D {
-        Instr::Lea { dst: r, base: b, disp: displacement(bytes, 2) }
+        Instr::Lea {
+            dst: r,
+            base: b,
+            disp: displacement(bytes, 2),
+        }
     } else if op == 0x88 {
-        Instr::StoreByte { base: b, disp: displacement(bytes, 2), src: r }
+        Instr::StoreByte {
+            base: b,
+            disp: displacement(bytes, 2),
+            src: r,
+        }
     } else if byte(bytes, 2) / 64 == 3 {
         Instr::MovReg { dst: b, src: r }
     } else {
-        Instr::Store { base: b, disp: displacement(bytes, 2), src: r }
+        Instr::Store {
+            base: b,
+            disp: displacement(bytes, 2),
+            src: r,
+        }
     }
 }
 
@@ -147,7 +172,11 @@ fn guess_unary(op: u8, extension: u8, b: Reg) -> Instr
     ensures { result ≡ guess_unary op extension b }
 {
     if op == 0xF7 {
-        if extension == 3 { Instr::Neg { dst: b } } else { Instr::Idiv { src: b } }
+        if extension == 3 {
+            Instr::Neg { dst: b }
+        } else {
+            Instr::Idiv { src: b }
+        }
     } else if extension == 2 {
         Instr::CallReg { to: b }
     } else {
@@ -162,9 +191,16 @@ fn guess_group(bytes: &[u8], op: u8, extension: u8, b: Reg) -> Instr
     if op == 0x99 {
         Instr::Cqo
     } else if op == 0xC1 {
-        Instr::ShiftImm { op: shift_of(extension), dst: b, count: byte(bytes, 3) }
+        Instr::ShiftImm {
+            op: shift_of(extension),
+            dst: b,
+            count: byte(bytes, 3),
+        }
     } else if op == 0xD3 {
-        Instr::ShiftCl { op: shift_of(extension), dst: b }
+        Instr::ShiftCl {
+            op: shift_of(extension),
+            dst: b,
+        }
     } else {
         guess_unary(op, extension, b)
     }
@@ -175,7 +211,11 @@ fn guess_high(bytes: &[u8], op: u8, extension: u8, r: Reg, b: Reg) -> Instr
     ensures { result ≡ guess_high bytes.now op extension r b }
 {
     if op == 0x81 {
-        Instr::ArithImm { op: arith_of(extension), dst: b, imm: signed_at(bytes, 3) }
+        Instr::ArithImm {
+            op: arith_of(extension),
+            dst: b,
+            imm: signed_at(bytes, 3),
+        }
     } else if op == 0x85 {
         Instr::Test { a: b, b: r }
     } else if op < 0x90 {
@@ -192,7 +232,11 @@ fn guess_two(bytes: &[u8], prefix: u8) -> Instr
     let r = Reg::from_bits(prefix / 4, byte(bytes, 3) / 8);
     let b = Reg::from_bits(prefix, byte(bytes, 3));
     if byte(bytes, 2) == 0xB6 {
-        Instr::LoadByte { dst: r, base: b, disp: displacement(bytes, 3) }
+        Instr::LoadByte {
+            dst: r,
+            base: b,
+            disp: displacement(bytes, 3),
+        }
     } else {
         Instr::Imul { dst: r, src: b }
     }
@@ -204,9 +248,16 @@ fn guess_one(bytes: &[u8], prefix: u8, op: u8) -> Instr
     let r = Reg::from_bits(prefix / 4, byte(bytes, 2) / 8);
     let b = Reg::from_bits(prefix, byte(bytes, 2));
     if op / 8 == 23 {
-        Instr::MovImm { dst: Reg::from_bits(prefix, op), imm: wide_at_2(bytes) }
+        Instr::MovImm {
+            dst: Reg::from_bits(prefix, op),
+            imm: wide_at_2(bytes),
+        }
     } else if op < 0x80 {
-        Instr::Arith { op: arith_of(op / 8), dst: b, src: r }
+        Instr::Arith {
+            op: arith_of(op / 8),
+            dst: b,
+            src: r,
+        }
     } else {
         guess_high(bytes, op, byte(bytes, 2) / 8 % 8, r, b)
     }
@@ -216,7 +267,11 @@ fn guess_one(bytes: &[u8], prefix: u8, op: u8) -> Instr
 fn guess_rex(bytes: &[u8], prefix: u8, op: u8) -> Instr
     ensures { result ≡ guess_rex bytes.now prefix op }
 {
-    if op == 0x0F { guess_two(bytes, prefix) } else { guess_one(bytes, prefix, op) }
+    if op == 0x0F {
+        guess_two(bytes, prefix)
+    } else {
+        guess_one(bytes, prefix, op)
+    }
 }
 
 /// Without a REX prefix.
@@ -224,15 +279,22 @@ fn guess_plain(bytes: &[u8], op: u8) -> Instr
     ensures { result ≡ guess_plain bytes.now op }
 {
     if op == 0xE9 {
-        Instr::Jump { rel: signed_at(bytes, 1) }
+        Instr::Jump {
+            rel: signed_at(bytes, 1),
+        }
     } else if op == 0xE8 {
-        Instr::Call { rel: signed_at(bytes, 1) }
+        Instr::Call {
+            rel: signed_at(bytes, 1),
+        }
     } else if op == 0xC3 {
         Instr::Ret
     } else if byte(bytes, 1) == 5 {
         Instr::Syscall
     } else {
-        Instr::JumpIf { cond: cond_of(byte(bytes, 1) % 16), rel: signed_at(bytes, 2) }
+        Instr::JumpIf {
+            cond: cond_of(byte(bytes, 1) % 16),
+            rel: signed_at(bytes, 2),
+        }
     }
 }
 
@@ -256,4 +318,38 @@ fn is_row(i: &Instr) -> bool
         Instr::ShiftImm { count, .. } => *count < 64,
         _ => true,
     }
+}
+
+/// Whether the bytes begin with the encoding of `i`, and how many bytes that has.
+fn length_at(bytes: &[u8], i: &Instr) -> Option<u8>
+    ensures { result ≡ length_at bytes.now i.now }
+{
+    let (form, len) = form_of(i);
+    let front = &form[..len as usize];
+    if bytes.starts_with(front) {
+        Some(len)
+    } else {
+        None
+    }
+}
+
+fn read_row(bytes: &[u8]) -> Option<(Instr, u8)>
+    ensures { result ≡ read_row bytes.now }
+{
+    let i = guess(bytes);
+    if !is_row(&i) {
+        return None;
+    }
+    let len = length_at(bytes, &i)?;
+    Some((i, len))
+}
+
+/// The instruction that the bytes begin with, and how many bytes it has. `None` exactly where no
+/// row's encoding is a prefix of the bytes. It takes no memory.
+pub fn decode(bytes: &[u8]) -> Option<(Instr, u8)>
+    ensures value { result ≡ decoded bytes.now }
+    ensures row { IfSome result (λ r. ReadsRow bytes.now r.0 r.1) }
+    ensures none { IfNone result (BeginsNoRow bytes.now) }
+{
+    read_row(bytes)
 }

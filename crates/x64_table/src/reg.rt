@@ -48,6 +48,8 @@ impl Reg {
     pub(crate) fn from_bits(high: u8, low: u8) -> Reg
         ensures { result ≡ register high low }
     {
-        Reg { number: 8 * (high % 2) + low % 8 }
+        Reg {
+            number: 8 * (high % 2) + low % 8,
+        }
     }
 }
