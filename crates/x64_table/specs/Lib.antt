@@ -3,3 +3,4 @@ pub mod Encoding
 pub mod Kernel
 pub mod Machine
 pub mod Numbers
+pub mod View

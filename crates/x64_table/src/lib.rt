@@ -6,8 +6,10 @@ mod cpu;
 mod form;
 mod image;
 mod instr;
+mod memory;
 mod reading;
 mod reg;
+mod registers;
 
 pub use cpu::{Cpu, Flags, Stepped};
 pub use form::form_of;
