@@ -1,5 +1,6 @@
 pub mod Fetch
 pub mod Follow
 pub mod Formats
+pub mod Lookup
 pub mod Rows
 pub mod Runs

@@ -1,6 +1,7 @@
-ghost use Rattle.std.specs.Prelude.{◌≡◌, ◌<◌, ◌≤◌, ◌+◌, ◌-◌, position, find, map, length, option_map, slice_get};
+ghost use Rattle.std.specs.Prelude.{◌≡◌, ◌<◌, ◌≤◌, ◌+◌, ◌-◌, ◌++◌, true, position, find, map, length, take, drop, option_map, slice_get};
+ghost use Rattle.std.specs.Int.{w64, from_le_bytes};
 ghost use Rattle.std.specs.Option.{option_copied};
-ghost use Rattle.x64_table.specs.Machine.{holds, below, from, is_open, is_readable, is_writable, is_code, byte_in, byte_at};
+ghost use Rattle.x64_table.specs.Machine.{holds, below, from, is_open, is_readable, is_writable, is_code, byte_in, byte_at, bytes_in, with_bytes};
 ghost use Rattle.x64_table.specs.View.{loaded_of, loaded};
 
 use crate::cpu::Cpu;
@@ -95,4 +96,82 @@ fn held_place(segments: &[Mapped], a: u64) -> Option<usize>
     ensures { result ≡ position (λ m. holds (loaded_of m) a 1) segments.now }
 {
     segments.iter().position(|m| holds(m, a, 1))
+}
+
+fn segment_at(segments: &[Mapped], k: usize) -> Option<&Mapped>
+    ensures { option_copied result ≡ slice_get segments.now k }
+{
+    segments.get(k)
+}
+
+/// The first segment that holds and lets read the `n` bytes from `a` on.
+fn readable<'a>(cpu: &Cpu, segments: &'a [Mapped], a: u64, n: u64) -> Option<&'a Mapped>
+    ensures { option_map loaded_of (option_copied result) ≡ find (is_readable cpu.now a n) (loaded segments.now) }
+{
+    match readable_place(cpu, segments, a, n) {
+        Some(k) => segment_at(segments, k),
+        None => None,
+    }
+}
+
+fn code<'a>(segments: &'a [Mapped], a: u64) -> Option<&'a Mapped>
+    ensures { option_map loaded_of (option_copied result) ≡ find (is_code a) (loaded segments.now) }
+{
+    match code_place(segments, a) {
+        Some(k) => segment_at(segments, k),
+        None => None,
+    }
+}
+
+fn held<'a>(segments: &'a [Mapped], a: u64) -> Option<&'a Mapped>
+    ensures { option_map loaded_of (option_copied result) ≡ find (λ s. holds s a 1) (loaded segments.now) }
+{
+    match held_place(segments, a) {
+        Some(k) => segment_at(segments, k),
+        None => None,
+    }
+}
+
+/// The byte at `a`, which the segment holds.
+fn byte_in(m: &Mapped, a: u64) -> u8
+    ensures { result ≡ byte_in a (loaded_of m.now) }
+{
+    let k = a.saturating_sub(m.at) as usize;
+    if k < m.bytes.len() { m.bytes[k] } else { 0 }
+}
+
+/// Eight bytes as a number, the lowest first.
+fn number(part: &[u8]) -> u64
+    requires { length part.now ≡ 8 }
+    ensures { result ≡ from_le_bytes w64 part.now }
+{
+    u64::from_le_bytes([
+        part[0], part[1], part[2], part[3], part[4], part[5], part[6], part[7],
+    ])
+}
+
+/// The eight bytes from `a` on, which the segment holds, as a number.
+fn number_in(m: &Mapped, a: u64) -> u64
+    requires { holds (loaded_of m.now) a 8 ≡ true }
+    ensures { result ≡ from_le_bytes w64 (bytes_in a 8 (loaded_of m.now)) }
+{
+    let k = (a - m.at) as usize;
+    number(&m.bytes[k..k + 8])
+}
+
+/// `bytes` in place of as many from `k` on.
+fn write_part(whole: &mut [u8], k: usize, bytes: &[u8])
+    requires { k + length bytes.now ≤ length whole.old }
+    ensures { whole.new ≡ take k whole.old ++ (bytes.now ++ drop (k + length bytes.now) whole.old) }
+{
+    whole[k..k + bytes.len()].copy_from_slice(bytes);
+}
+
+/// `bytes` written from `a` on in the segment, which holds them all.
+fn write_in(m: &mut Mapped, a: u64, bytes: &[u8])
+    requires { holds (loaded_of m.old) a (length bytes.now) ≡ true }
+    ensures { loaded_of m.new ≡ with_bytes a bytes.now (loaded_of m.old) }
+{
+    let k = (a - m.at) as usize;
+    write_part(&mut m.bytes, k, bytes);
 }
