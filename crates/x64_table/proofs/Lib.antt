@@ -1,3 +1,4 @@
+pub mod Bytewise
 pub mod Fetch
 pub mod Follow
 pub mod Formats

@@ -4,7 +4,9 @@ use Rattle.std.specs.List.{position_or_len}
 use Rattle.std.proofs.lemmas.List.Folds.{find_at}
 use Rattle.std.proofs.lemmas.Bool.Decides.{nat_tests}
 use Rattle.x64_table.specs.declared.memory.Mapped.{Mapped}
-use Rattle.x64_table.specs.Machine.{Loaded, change_first}
+use Rattle.std.proofs.lemmas.List.{map-set}
+use Rattle.x64_table.specs.declared.cpu.Cpu.{Cpu}
+use Rattle.x64_table.specs.Machine.{Loaded, has_some, change_first, holds, is_readable, is_writable}
 use Rattle.x64_table.specs.View.{loaded_of, loaded}
 
 abbrev seen : (Loaded → Bool) → Mapped → Bool
@@ -63,6 +65,48 @@ find_passes p [] s e = absurd (cc)
 find_passes p (x ∷ xs) s e = passes (p x) p x s _ refl (find_passes p xs s) e
 
 -- a change of the first that passes is a write at its place
-change_at : (b : Bool) (x : Loaded) (c : Loaded → Loaded) (rest more : List Loaded) (k : ℕ) → (b ≡ false → more ≡ set rest k (c (get_or rest k x))) → (if b then c x ∷ rest else x ∷ more) ≡ set (x ∷ rest) (cond (not b) (1 + k) 0) (c (get_or (x ∷ rest) (cond (not b) (1 + k) 0) x))
-change_at true x c rest more k h = refl
-change_at false x c rest more k h = let e : 1 + k ≡ suc k = omega arith in rw e (ap (λ l. x ∷ l) (h refl))
+change_cons : (b : Bool) (m d : Mapped) (c : Loaded → Loaded) (rest : List Mapped) (more : List Loaded) (k : ℕ) → more ≡ set (loaded rest) k (c (loaded_of (get_or rest k d))) → (if b then c (loaded_of m) ∷ loaded rest else loaded_of m ∷ more) ≡ set (loaded (m ∷ rest)) (cond (not b) (1 + k) 0) (c (loaded_of (get_or (m ∷ rest) (cond (not b) (1 + k) 0) d)))
+change_cons true m d c rest more k h = refl
+change_cons false m d c rest more k h =
+    let e : 1 + k ≡ suc k = omega arith in rw e (ap (λ l. loaded_of m ∷ l) h)
+
+change_first-at : (p : Loaded → Bool) (c : Loaded → Loaded) (xs : List Mapped) (d : Mapped) → change_first p c (loaded xs) ≡ set (loaded xs) (position_or_len (seen p) xs) (c (loaded_of (get_or xs (position_or_len (seen p) xs) d)))
+change_first-at p c [] d = refl
+change_first-at p c (m ∷ xs) d =
+    change_cons (p (loaded_of m)) m d c xs _ (position_or_len (seen p) xs) (change_first-at p c xs d)
+
+pub changed_some : (p : Loaded → Bool) (c : Loaded → Loaded) (xs : List Mapped) (k : ℕ) (d y : Mapped) → Some k ≡ position (seen p) xs → loaded_of y ≡ c (loaded_of (get_or xs k d)) → change_first p c (loaded xs) ≡ loaded (set xs k y)
+changed_some p c xs k d y e same =
+    let w = place_is (nat_lt (position_or_len (seen p) xs) (length xs)) (position_or_len (seen p) xs) k e in
+    change_first-at p c xs d ∙ ap (λ n. set (loaded xs) n (c (loaded_of (get_or xs n d)))) (sym w.1) ∙ ap (set (loaded xs) k) (sym same) ∙ sym (map-set loaded_of xs k y)
+
+get_some : {A : Type 0} (xs : List A) (k : ℕ) (d : A) → k < length xs → slice_get xs k ≡ Some (get_or xs k d)
+get_some [] k d h = absurd (omega arith)
+get_some (x ∷ xs) zero d h = refl
+get_some (x ∷ xs) (suc k) d h = get_some xs k d (omega arith)
+
+-- the one that stands at the place passes
+pub found_at : (p : Loaded → Bool) (xs : List Mapped) (k : ℕ) (d : Mapped) → Some k ≡ position (seen p) xs → find p (loaded xs) ≡ Some (loaded_of (get_or xs k d))
+found_at p xs k d e =
+    found_some p xs k e ∙ ap (option_map loaded_of) (get_some xs k d (found_below p xs k e))
+
+pub found_passes : (p : Loaded → Bool) (xs : List Mapped) (k : ℕ) (d : Mapped) → Some k ≡ position (seen p) xs → p (loaded_of (get_or xs k d)) ≡ true
+found_passes p xs k d e = find_passes p (loaded xs) _ (found_at p xs k d e)
+
+and_left : (a b : Bool) → (a && b) ≡ true → a ≡ true
+and_left true b h = refl
+and_left false b h = h
+
+pub readable_holds : (cpu : Cpu) (a n : ℕ) (s : Loaded) → is_readable cpu a n s ≡ true → holds s a n ≡ true
+readable_holds cpu a n s h = and_left _ _ h
+
+pub writable_holds : (cpu : Cpu) (a n : ℕ) (s : Loaded) → is_writable cpu a n s ≡ true → holds s a n ≡ true
+writable_holds cpu a n s h = and_left _ _ h
+
+got_has : (xs : List Mapped) (k : ℕ) (o : Option Loaded) → k < length xs → o ≡ option_map loaded_of (slice_get xs k) → has_some o ≡ true
+got_has [] k o h e = absurd (omega arith)
+got_has (x ∷ xs) zero o h e = ap has_some e
+got_has (x ∷ xs) (suc k) o h e = got_has xs k o (omega arith) e
+
+pub found_has : (p : Loaded → Bool) (xs : List Mapped) (k : ℕ) → Some k ≡ position (seen p) xs → has_some (find p (loaded xs)) ≡ true
+found_has p xs k e = got_has xs k _ (found_below p xs k e) (found_some p xs k e)

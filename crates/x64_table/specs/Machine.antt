@@ -222,21 +222,21 @@ bytes_in a n s = take n (drop (a - s.at) s.bytes)
 abbrev pub byte_at : List Loaded → ℕ → Option ℕ
 byte_at segments a = option_map (byte_in a) (find (λ s. holds s a 1) segments)
 
-abbrev pub put_first : ℕ → Option (List ℕ) → Option (List ℕ)
-put_first b None = None
-put_first b (Some bs) = Some (b ∷ bs)
+abbrev pub push_last : Option (List ℕ) → Option ℕ → Option (List ℕ)
+push_last None b = None
+push_last (Some bytes) None = None
+push_last (Some bytes) (Some b) = Some (bytes ++ b ∷ [])
 
 -- the bytes at n places from a on, if each of them is there. An access goes byte by byte where
 -- no segment holds all of it
 unfoldable pub each_byte : (ℕ → Option ℕ) → ℕ → ℕ → Option (List ℕ)
 each_byte byte zero a = Some []
-each_byte byte (suc n) a =
-    elim (byte a) [ None ↦ None | Some b ↦ put_first b (each_byte byte n ((a + 1) % 2 ^ 64)) ]
+each_byte byte (suc n) a = push_last (each_byte byte n a) (byte ((a + n) % 2 ^ 64))
 
 -- each of n places from a on passes
 unfoldable pub each_place : (ℕ → Bool) → ℕ → ℕ → Bool
 each_place test zero a = true
-each_place test (suc n) a = test a && each_place test n ((a + 1) % 2 ^ 64)
+each_place test (suc n) a = each_place test n a && test ((a + n) % 2 ^ 64)
 
 -- the bytes from a on up to the first that is not there, n at most
 unfoldable pub run_of_bytes : (ℕ → Option ℕ) → ℕ → ℕ → List ℕ

@@ -2,6 +2,8 @@
 //! after the Intel 64 manual, volume 2.
 #![tactic(auto)]
 
+mod access;
+mod arith;
 mod cpu;
 mod form;
 mod image;

@@ -80,7 +80,7 @@ fn readable_place(cpu: &Cpu, segments: &[Mapped], a: u64, n: u64) -> Option<usiz
     segments.iter().position(|m| is_readable(cpu, a, n, m))
 }
 
-fn writable_place(cpu: &Cpu, segments: &[Mapped], a: u64, n: u64) -> Option<usize>
+pub(crate) fn writable_place(cpu: &Cpu, segments: &[Mapped], a: u64, n: u64) -> Option<usize>
     ensures { result ≡ position (λ m. is_writable cpu.now a n (loaded_of m)) segments.now }
 {
     segments.iter().position(|m| is_writable(cpu, a, n, m))
@@ -105,7 +105,7 @@ fn segment_at(segments: &[Mapped], k: usize) -> Option<&Mapped>
 }
 
 /// The first segment that holds and lets read the `n` bytes from `a` on.
-fn readable<'a>(cpu: &Cpu, segments: &'a [Mapped], a: u64, n: u64) -> Option<&'a Mapped>
+pub(crate) fn readable<'a>(cpu: &Cpu, segments: &'a [Mapped], a: u64, n: u64) -> Option<&'a Mapped>
     ensures { option_map loaded_of (option_copied result) ≡ find (is_readable cpu.now a n) (loaded segments.now) }
 {
     match readable_place(cpu, segments, a, n) {
@@ -114,7 +114,7 @@ fn readable<'a>(cpu: &Cpu, segments: &'a [Mapped], a: u64, n: u64) -> Option<&'a
     }
 }
 
-fn code<'a>(segments: &'a [Mapped], a: u64) -> Option<&'a Mapped>
+pub(crate) fn code<'a>(segments: &'a [Mapped], a: u64) -> Option<&'a Mapped>
     ensures { option_map loaded_of (option_copied result) ≡ find (is_code a) (loaded segments.now) }
 {
     match code_place(segments, a) {
@@ -123,7 +123,7 @@ fn code<'a>(segments: &'a [Mapped], a: u64) -> Option<&'a Mapped>
     }
 }
 
-fn held<'a>(segments: &'a [Mapped], a: u64) -> Option<&'a Mapped>
+pub(crate) fn held<'a>(segments: &'a [Mapped], a: u64) -> Option<&'a Mapped>
     ensures { option_map loaded_of (option_copied result) ≡ find (λ s. holds s a 1) (loaded segments.now) }
 {
     match held_place(segments, a) {
@@ -133,7 +133,7 @@ fn held<'a>(segments: &'a [Mapped], a: u64) -> Option<&'a Mapped>
 }
 
 /// The byte at `a`, which the segment holds.
-fn byte_in(m: &Mapped, a: u64) -> u8
+pub(crate) fn byte_in(m: &Mapped, a: u64) -> u8
     ensures { result ≡ byte_in a (loaded_of m.now) }
 {
     let k = a.saturating_sub(m.at) as usize;
@@ -141,7 +141,7 @@ fn byte_in(m: &Mapped, a: u64) -> u8
 }
 
 /// Eight bytes as a number, the lowest first.
-fn number(part: &[u8]) -> u64
+pub(crate) fn number(part: &[u8]) -> u64
     requires { length part.now ≡ 8 }
     ensures { result ≡ from_le_bytes w64 part.now }
 {
@@ -151,7 +151,7 @@ fn number(part: &[u8]) -> u64
 }
 
 /// The eight bytes from `a` on, which the segment holds, as a number.
-fn number_in(m: &Mapped, a: u64) -> u64
+pub(crate) fn number_in(m: &Mapped, a: u64) -> u64
     requires { holds (loaded_of m.now) a 8 ≡ true }
     ensures { result ≡ from_le_bytes w64 (bytes_in a 8 (loaded_of m.now)) }
 {
@@ -168,7 +168,7 @@ fn write_part(whole: &mut [u8], k: usize, bytes: &[u8])
 }
 
 /// `bytes` written from `a` on in the segment, which holds them all.
-fn write_in(m: &mut Mapped, a: u64, bytes: &[u8])
+pub(crate) fn write_in(m: &mut Mapped, a: u64, bytes: &[u8])
     requires { holds (loaded_of m.old) a (length bytes.now) ≡ true }
     ensures { loaded_of m.new ≡ with_bytes a bytes.now (loaded_of m.old) }
 {
