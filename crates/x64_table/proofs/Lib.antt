@@ -1,4 +1,5 @@
 pub mod Bytewise
+pub mod Divide
 pub mod Fetch
 pub mod Follow
 pub mod Formats

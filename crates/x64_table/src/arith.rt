@@ -110,3 +110,18 @@ fn fitting(quotient: i128, remainder: i64) -> Option<(u64, u64)>
         Err(_) => None,
     }
 }
+
+/// The quotient and the remainder of `high`:`low` by `by`, all with sign; `None` where `by` is zero
+/// or the quotient does not fit.
+pub(crate) fn divided(high: u64, low: u64, by: u64) -> Option<(u64, u64)>
+    ensures { result ≡ divided high low by }
+{
+    if by == 0 {
+        return None;
+    }
+    let a = joined(high, low);
+    let d = i128::from(by.cast_signed());
+    let quotient = a.checked_div(d)?;
+    let remainder = a.wrapping_rem(d) as i64;
+    fitting(quotient, remainder)
+}

@@ -5,6 +5,7 @@
 mod access;
 mod arith;
 mod cpu;
+mod effects;
 mod form;
 mod image;
 mod instr;
