@@ -11,7 +11,7 @@ use crate::reg::Reg;
 use crate::registers::{address, fault, flags_of, get, numbered, past, set, set_numbered, sign};
 
 /// The processor goes on behind an instruction of `n` bytes.
-fn advance(cpu: &mut Cpu, n: u8) -> Stepped
+pub(crate) fn advance(cpu: &mut Cpu, n: u8) -> Stepped
     ensures went { result ≡ Stepped.Went }
     ensures after { cpu.new ≡ moved cpu.old (past cpu.old n) }
 {

@@ -4,15 +4,18 @@
 
 mod access;
 mod arith;
+mod control;
 mod cpu;
 mod effects;
 mod form;
 mod image;
 mod instr;
+mod kernel_calls;
 mod memory;
 mod reading;
 mod reg;
 mod registers;
+mod transfers;
 
 pub use cpu::{Cpu, Flags, Stepped};
 pub use form::form_of;
