@@ -1,10 +1,10 @@
 -- Accesses that go byte by byte.
-use Rattle.std.proofs.Common.{ℕ, zero, suc, ◌+◌, ◌<◌, ◌≤◌, ◌%◌, ◌^◌, ◌≡◌, ◌≢◌, ◌⊎◌, inl, inr, Bool, true, false, ◌&&◌, List, [], ◌∷◌, ◌++◌, length, take, drop, set, get_or, Option, Some, None, refl, sym, ap, ◌∙◌, arith, add-one, cond, find, drop-cons, if◌then◌else◌, true≢false}
+use Rattle.std.proofs.Common.{ℕ, zero, suc, ◌+◌, ◌<◌, ◌≤◌, ◌%◌, ◌^◌, ◌≡◌, ◌≢◌, ◌⊎◌, inl, inr, Bool, true, false, ◌&&◌, List, [], ◌∷◌, ◌++◌, length, take, drop, set, get_or, Option, Some, None, refl, sym, ap, ◌∙◌, arith, add-one, cond, find, drop-cons, if◌then◌else◌, true≢false, append_assoc, append-nil, ◌-◌}
 use Rattle.std.proofs.lemmas.Bool.Decides.{eqb_tells}
 use Rattle.std.proofs.Math.Seq.{take-suc-set}
 use Rattle.std.proofs.Math.ListN.{drop_of_length-le}
 use Rattle.x64_table.specs.declared.cpu.Cpu.{Cpu}
-use Rattle.x64_table.specs.Machine.{each_byte, each_place, push_last, Loaded, has_some, has_writable, change_first, stored, stored_each}
+use Rattle.x64_table.specs.Machine.{each_byte, each_place, push_last, Loaded, has_some, has_writable, change_first, stored, stored_each, run_of_bytes}
 
 -- ---- places that all pass
 
@@ -106,3 +106,36 @@ stored_done cpu bytes i a xs h =
 
 pub stored_start : (cpu : Cpu) (bytes : List ℕ) (a : ℕ) (xs : List Loaded) → stored_each cpu a (drop 0 bytes) xs ≡ stored_each cpu a bytes xs
 stored_start cpu bytes a xs = refl
+
+-- ---- a run of bytes up to the first that is missing
+
+one_byte : (byte : ℕ → Option ℕ) (n p b : ℕ) → byte p ≡ Some b → run_of_bytes byte (suc n) p ≡ b ∷ run_of_bytes byte n ((p + 1) % 2 ^ 64)
+unfolding run_of_bytes
+one_byte byte n p b is = rw is refl
+
+no_byte : (byte : ℕ → Option ℕ) (n p : ℕ) → byte p ≡ None → run_of_bytes byte (suc n) p ≡ []
+unfolding run_of_bytes
+no_byte byte n p is = rw is refl
+
+pub run_more : (byte : ℕ → Option ℕ) (part all : List ℕ) (i n a b : ℕ) → i < n → i < length part → byte ((a + i) % 2 ^ 64) ≡ Some b → take i part ++ run_of_bytes byte (n - i) ((a + i) % 2 ^ 64) ≡ all → take (i + 1) (set part i b) ++ run_of_bytes byte (n - (i + 1)) ((a + (i + 1)) % 2 ^ 64) ≡ all
+run_more byte part all i n a b below within one before =
+    let k : n - i ≡ suc (n - (i + 1)) = omega arith in
+    let p : ((a + i) % 2 ^ 64 + 1) % 2 ^ 64 ≡ (a + (i + 1)) % 2 ^ 64 = omega arith in
+    let here = one_byte byte (n - (i + 1)) ((a + i) % 2 ^ 64) b one in
+    let one_more : i + 1 ≡ suc i = omega arith in
+    let front = ap (λ j. take j (set part i b)) one_more ∙ take-suc-set part i b within in
+    ap (λ l. l ++ run_of_bytes byte (n - (i + 1)) ((a + (i + 1)) % 2 ^ 64)) front ∙ append_assoc (take i part) (b ∷ []) _ ∙ ap (λ q. take i part ++ (b ∷ run_of_bytes byte (n - (i + 1)) q)) (sym p) ∙ ap (λ l. take i part ++ l) (sym here) ∙ ap (λ j. take i part ++ run_of_bytes byte j ((a + i) % 2 ^ 64)) (sym k) ∙ before
+
+pub run_stops : (byte : ℕ → Option ℕ) (part all : List ℕ) (i n a : ℕ) → i < n → byte ((a + i) % 2 ^ 64) ≡ None → take i part ++ run_of_bytes byte (n - i) ((a + i) % 2 ^ 64) ≡ all → take i part ≡ all
+run_stops byte part all i n a below none before =
+    let k : n - i ≡ suc (n - (i + 1)) = omega arith in
+    sym (append-nil (take i part)) ∙ ap (λ l. take i part ++ l) (sym (no_byte byte (n - (i + 1)) ((a + i) % 2 ^ 64) none)) ∙ ap (λ j. take i part ++ run_of_bytes byte j ((a + i) % 2 ^ 64)) (sym k) ∙ before
+
+run_nil : (byte : ℕ → Option ℕ) (p : ℕ) → run_of_bytes byte 0 p ≡ []
+unfolding run_of_bytes
+run_nil byte p = refl
+
+pub run_ends : (byte : ℕ → Option ℕ) (part all : List ℕ) (i n p : ℕ) → n ≤ i → take i part ++ run_of_bytes byte (n - i) p ≡ all → take i part ≡ all
+run_ends byte part all i n p past before =
+    let k : n - i ≡ 0 = omega arith in
+    sym (append-nil (take i part)) ∙ ap (λ l. take i part ++ l) (sym (run_nil byte p)) ∙ ap (λ j. take i part ++ run_of_bytes byte j p) (sym k) ∙ before

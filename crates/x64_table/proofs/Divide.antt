@@ -1,5 +1,5 @@
 -- Quotients that fit, and remainders that always do.
-use Rattle.std.proofs.Common.{ℕ, zero, suc, ◌+◌, ◌-◌, ◌*◌, ◌<◌, ◌≤◌, ◌^◌, ◌≡◌, ◌⊎◌, inl, inr, Bool, true, false, ℤ, pos, negsuc, FitsSigned, unsigned_abs, nat_le, nat_lt, eqb, ◌≢◌, int_div, int_rem, Option, Some, None, refl, sym, ap, ◌∙◌, arith}
+use Rattle.std.proofs.Common.{ℕ, zero, suc, ◌+◌, ◌-◌, ◌*◌, ◌<◌, ◌≤◌, ◌^◌, ◌≡◌, inl, inr, false, ℤ, pos, negsuc, FitsSigned, unsigned_abs, nat_le, eqb, ◌≢◌, int_div, int_rem, Option, None, refl, ap, ◌∙◌, arith}
 use Rattle.std.specs.Int.{w64, w128, cast_signed, cast_unsigned}
 use Rattle.std.proofs.lemmas.Int.{fits_signed_from_abs, rem_below}
 use Rattle.std.proofs.lemmas.Bool.Decides.{nat_tests, leb_tells}

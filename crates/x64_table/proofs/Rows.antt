@@ -1,6 +1,6 @@
 -- What is encoded reads back as itself, and what reads is a row that the bytes begin with. So no
 -- bytes begin with two rows.
-use Rattle.std.proofs.Common.{ℕ, ◌+◌, ◌/◌, ◌%◌, ◌^◌, ◌<◌, ◌≡◌, true, false, eqb, List, ◌++◌, length, drop, ℤ, FitsSigned, refl, IfSome, subst, IfNone, option_map, sym, ap, ◌∙◌, arith, nat_eq, nat_lt, Option, Some, None, if◌then◌else◌, Bool, take, ◌≢◌}
+use Rattle.std.proofs.Common.{ℕ, ◌+◌, ◌/◌, ◌%◌, ◌^◌, ◌<◌, ◌≡◌, true, false, eqb, List, ◌++◌, length, drop, ℤ, FitsSigned, refl, IfSome, subst, IfNone, option_map, sym, ap, ◌∙◌, arith, nat_eq, nat_lt, Option, Some, None, if◌then◌else◌, Bool, take}
 use Rattle.std.specs.Int.{w32}
 use Rattle.std.proofs.lemmas.Nat.{from_le_bytes-to_le_bytes_8}
 use Rattle.std.proofs.lemmas.Slice.Eq.{starts_is}

@@ -1,7 +1,7 @@
 -- A segment that passes is found at its place.
-use Rattle.std.proofs.Common.{sym, ap, ◌∙◌, refl}
+use Rattle.std.proofs.Common.{sym, ap}
 use Rattle.x64_table.specs.Machine.{is_writable, has_some}
-use Rattle.x64_table.proofs.Lookup.{found_some, found_none, found_has}
+use Rattle.x64_table.proofs.Lookup.{found_none, found_has}
 use Rattle.x64_table.proofs.access.has_writable.Goals as goal
 
 pub returns-in-Some : goal.returns-in-Some

@@ -1,5 +1,5 @@
 -- The write is at the place of the first segment that passes.
-use Rattle.std.proofs.Common.{length, sym, ap, ◌∙◌, refl}
+use Rattle.std.proofs.Common.{length, sym, ap}
 use Rattle.x64_table.specs.Machine.{is_writable, with_bytes, has_some}
 use Rattle.x64_table.proofs.Lookup.{found_none, found_has, found_passes, writable_holds, changed_some}
 use Rattle.x64_table.proofs.access.store_whole.Goals as goal

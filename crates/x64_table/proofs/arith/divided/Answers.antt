@@ -1,6 +1,6 @@
 -- The casts lose nothing, so the steps are the definition's.
 use Rattle.std.proofs.Common.{rules, ◌≡◌, sym, ◌∙◌, subst, ◌<◌, ℤ, FitsSigned, int_div, int_rem}
-use Rattle.std.specs.Int.{w64, w128, cast_signed, cast_unsigned}
+use Rattle.std.specs.Int.{w64, w128, cast_unsigned}
 use Rattle.std.proofs.lemmas.Int.{to_z-of_z}
 use Rattle.x64_table.specs.Machine.{fitting}
 use Rattle.x64_table.proofs.Divide.{divided_is, remainder_fits}
