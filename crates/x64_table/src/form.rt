@@ -1,6 +1,6 @@
-ghost use Rattle.std.specs.Prelude.{◌≡◌, ◌<◌, ◌≤◌, ◌+◌, ◌*◌, ◌∷◌, []};
-ghost use Rattle.x64_table.specs.Encoding.{encoding, padded, memory, rex_w, rex_n, direct, signed_4, arith_number, shift_number, cond_number};
-ghost use Rattle.std.specs.Int.{w64, to_le_bytes};
+ghost use Rattle.std.specs.Prelude.{◌≡◌, ◌<◌, ◌≤◌, ◌+◌, ◌*◌, ◌∷◌, [], ◌^◌, true, FitsSigned};
+ghost use Rattle.x64_table.specs.Encoding.{encoding, IsRow, is_row, padded, memory, rex_w, rex_n, direct, signed_4, arith_number, shift_number, cond_number};
+ghost use Rattle.std.specs.Int.{w32, w64, to_le_bytes};
 
 use crate::instr::{ArithOp, Cond, Instr, ShiftOp};
 use crate::reg::Reg;
@@ -10,27 +10,33 @@ pub type Form = ([u8; 15], u8);
 
 /// The REX prefix with W, for the register field and the base or second register.
 fn rex_w(r: Reg, b: Reg) -> u8
-    ensures { result ≡ rex_w r b }
+    ensures byte { result ≡ rex_w r b }
+    ensures r_within { r < 16 }
+    ensures b_within { b < 16 }
 {
     0x48 + (4 * (r.number() / 8) + b.number() / 8)
 }
 
 /// The REX prefix without W.
 fn rex_n(r: Reg, b: Reg) -> u8
-    ensures { result ≡ rex_n r b }
+    ensures byte { result ≡ rex_n r b }
+    ensures r_within { r < 16 }
+    ensures b_within { b < 16 }
 {
     0x40 + (4 * (r.number() / 8) + b.number() / 8)
 }
 
 /// The REX prefix with W, where the opcode is extended or holds the register.
 fn rex_alone(b: Reg) -> u8
-    ensures { result ≡ rex_w 0 b }
+    ensures byte { result ≡ rex_w 0 b }
+    ensures within { b < 16 }
 {
     0x48 + b.number() / 8
 }
 
 fn rex_n_alone(b: Reg) -> u8
-    ensures { result ≡ rex_n 0 b }
+    ensures byte { result ≡ rex_n 0 b }
+    ensures within { b < 16 }
 {
     0x40 + b.number() / 8
 }
@@ -113,21 +119,24 @@ fn of_four(a: u8, b: u8, c: u8, d: u8) -> Form
 
 /// An opcode of one byte and four bytes with sign.
 fn relative(a: u8, z: i32) -> Form
-    ensures { result ≡ padded (a ∷ signed_4 z) }
+    ensures form { result ≡ padded (a ∷ signed_4 z) }
+    ensures fits { FitsSigned w32 z }
 {
     let d = z.to_le_bytes();
     ([a, d[0], d[1], d[2], d[3], 0, 0, 0, 0, 0, 0, 0, 0, 0, 0], 5)
 }
 
 fn relative_if(a: u8, b: u8, z: i32) -> Form
-    ensures { result ≡ padded (a ∷ b ∷ signed_4 z) }
+    ensures form { result ≡ padded (a ∷ b ∷ signed_4 z) }
+    ensures fits { FitsSigned w32 z }
 {
     let d = z.to_le_bytes();
     ([a, b, d[0], d[1], d[2], d[3], 0, 0, 0, 0, 0, 0, 0, 0, 0], 6)
 }
 
 fn immediate(a: u8, b: u8, c: u8, z: i32) -> Form
-    ensures { result ≡ padded (a ∷ b ∷ c ∷ signed_4 z) }
+    ensures form { result ≡ padded (a ∷ b ∷ c ∷ signed_4 z) }
+    ensures fits { FitsSigned w32 z }
 {
     let d = z.to_le_bytes();
     ([a, b, c, d[0], d[1], d[2], d[3], 0, 0, 0, 0, 0, 0, 0, 0], 7)
@@ -135,7 +144,8 @@ fn immediate(a: u8, b: u8, c: u8, z: i32) -> Form
 
 /// A prefix, an opcode and eight bytes.
 fn wide(a: u8, b: u8, imm: u64) -> Form
-    ensures { result ≡ padded (a ∷ b ∷ to_le_bytes w64 imm) }
+    ensures form { result ≡ padded (a ∷ b ∷ to_le_bytes w64 imm) }
+    ensures fits { imm < 2 ^ 64 }
 {
     let d = imm.to_le_bytes();
     (
@@ -149,7 +159,8 @@ fn wide(a: u8, b: u8, imm: u64) -> Form
 /// An operand in memory: behind the opcode come ModRM, the SIB byte where the base's low bits are
 /// those of rsp, and the displacement.
 fn in_memory(a: u8, b: u8, r: Reg, base: Reg, disp: i32) -> Form
-    ensures { result ≡ padded (a ∷ b ∷ memory r base disp) }
+    ensures form { result ≡ padded (a ∷ b ∷ memory r base disp) }
+    ensures fits { FitsSigned w32 disp }
 {
     let d = disp.to_le_bytes();
     let m = 0x80 + (8 * (r.number() % 8) + base.number() % 8);
@@ -165,7 +176,8 @@ fn in_memory(a: u8, b: u8, r: Reg, base: Reg, disp: i32) -> Form
 
 /// The same behind an opcode of two bytes.
 fn in_memory_two(a: u8, b: u8, c: u8, r: Reg, base: Reg, disp: i32) -> Form
-    ensures { result ≡ padded (a ∷ b ∷ c ∷ memory r base disp) }
+    ensures form { result ≡ padded (a ∷ b ∷ c ∷ memory r base disp) }
+    ensures fits { FitsSigned w32 disp }
 {
     let d = disp.to_le_bytes();
     let m = 0x80 + (8 * (r.number() % 8) + base.number() % 8);
@@ -181,7 +193,8 @@ fn in_memory_two(a: u8, b: u8, c: u8, r: Reg, base: Reg, disp: i32) -> Form
 
 /// The bytes of an instruction, by its row. It takes no memory.
 pub fn form_of(i: &Instr) -> Form
-    ensures { result ≡ padded (encoding i.now) }
+    ensures form { result ≡ padded (encoding i.now) }
+    ensures row { is_row i.now ≡ true → IsRow i.now }
 {
     match i {
         Instr::MovReg { dst, src } => of_three(rex_w(*src, *dst), 0x89, direct(*src, *dst)),
