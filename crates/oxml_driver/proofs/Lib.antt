@@ -1,5 +1,6 @@
 mod LineLemmas
 mod PrinterAnswers
+mod PrinterCode
 mod PrinterEnds
 mod PrinterLoop
 mod PrinterMemory
