@@ -1,0 +1,14 @@
+use Rattle.oxml_driver.proofs.CommandLemmas.{answers_refused, answers_unwritten}
+use Rattle.oxml_driver.proofs.command.finish.Goals as goal
+
+-- the shelf refused to save the image
+pub returns-in-Err-Failed : goal.returns-in-Err-Failed
+returns-in-Err-Failed g c =
+    let fails = rw c.in-Err-Failed.field-0-is at c.in-Err-Failed.ensures.err in
+    answers_unwritten _ _ _ _ _ _ _ fails c.in-Err-Failed.ensures.others c.say_unwritten.ensures.status c.say_unwritten.ensures.err
+
+-- the source violates a rule
+pub returns-in-Err-Refused : goal.returns-in-Err-Refused
+returns-in-Err-Refused g c =
+    let why = rw c.in-Err-Refused.field-0-is at c.in-Err-Refused.ensures.err in
+    answers_refused _ _ _ _ _ _ c.args.source.now c.in-Err-Refused.refusal c.requires.told c.requires.short why.1 why.2 (c.say_made.ensures _ c.refusal_line.ensures)

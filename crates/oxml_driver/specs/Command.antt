@@ -1,0 +1,132 @@
+-- What the command comes to: each status has its cause, and says what stands behind it.
+use Rattle.std.specs.Prelude.{◌≡◌, ◌⊎◌, ℕ, true, Some, List, [], ◌∷◌, ◌++◌, length, ◌≤◌}
+use Rattle.oxml_base.specs.declared.outside.ShelfCall.TheVariants.{Load, Save}
+use Rattle.oxml_base.specs.Outside.{ShelfView, SinkView, Rose, SameHeld, SameBut, SameFaults, ShelfFails, HoldsMore, Gains, GainsPart, Puts}
+use Rattle.oxml_driver.specs.Build.{Compiles, PrintsNothing, default_sizes, left_out, most_bytes}
+use Rattle.oxml_driver.specs.Lines.{usage_line, write_fault_line, no_memory_line, read_fault_line, bytes_limit_line, refusal_line}
+use Rattle.oxml_driver.specs.Words.{IsBuild}
+
+-- what is seen of the outside
+pub record World : Type 0 where
+  pub shelf : ShelfView
+  pub out : SinkView
+  pub err : SinkView
+
+-- the words are no command
+abbrev pub IsMisread : List (List ℕ) → Type 0
+IsMisread words = (file out : List ℕ) → IsBuild words file out → ⊥
+
+-- the source that the words name, as far as the shelf tells it
+pub record HasSource (words : List (List ℕ)) (world : World) (file out source : List ℕ) : Type 0 where
+  pub words_are : IsBuild words file out
+  pub told : world.shelf.tells ≡ true → world.shelf.held file ≡ Some source
+
+-- the source prints no text, within the limit of bytes
+pub record IsLeftOut (words : List (List ℕ)) (world : World) (file out source : List ℕ) : Type 0 where
+  pub has_source : HasSource words world file out source
+  pub short : length source ≤ most_bytes
+  pub prints_nothing : PrintsNothing source
+
+-- the name holds too many bytes
+pub record IsTooLong (words : List (List ℕ)) (world : World) (file out : List ℕ) : Type 0 where
+  pub words_are : IsBuild words file out
+  pub holds_more : HoldsMore world.shelf file most_bytes
+
+-- ---- the answers
+
+-- status 0: the source is compiled with the default sizes, and OUT holds the executable; nothing else
+-- changed, and no call failed
+pub record IsBuilt (words : List (List ℕ)) (old new : World) : Type 0 where
+  pub file : List ℕ
+  pub out_name : List ℕ
+  pub source : List ℕ
+  pub has_source : HasSource words old file out_name source
+  pub bytes : List ℕ
+  pub compiles : Compiles source default_sizes bytes
+  pub saved : old.shelf.tells ≡ true → new.shelf.held out_name ≡ Some bytes
+  pub others : SameBut old.shelf new.shelf out_name
+  pub calm : SameFaults old.shelf new.shelf
+  pub out : new.out ≡ old.out
+  pub err : new.err ≡ old.err
+
+-- a line was put on err, and nothing else changed
+pub record Says (old new : World) (line : List ℕ) : Type 0 where
+  pub held : SameHeld old.shelf new.shelf
+  pub calm : SameFaults old.shelf new.shelf
+  pub out : new.out ≡ old.out
+  pub err : Puts old.err new.err line
+
+-- status 1: the line names the rule
+pub record IsRefused (words : List (List ℕ)) (old new : World) : Type 0 where
+  pub file : List ℕ
+  pub out_name : List ℕ
+  pub source : List ℕ
+  pub cause : IsLeftOut words old file out_name source
+  pub says : Says old new (refusal_line file source left_out)
+
+-- status 2
+pub record IsUsage (words : List (List ℕ)) (old new : World) : Type 0 where
+  pub cause : IsMisread words
+  pub says : Says old new usage_line
+
+-- status 3: the shelf failed to load the name that the words give
+pub record IsReadFault (words : List (List ℕ)) (old new : World) : Type 0 where
+  pub file : List ℕ
+  pub out_name : List ℕ
+  pub words_are : IsBuild words file out_name
+  pub fails : ShelfFails old.shelf new.shelf Load file
+  pub held : SameHeld old.shelf new.shelf
+  pub out : new.out ≡ old.out
+  pub err : GainsPart old.err new.err (read_fault_line file)
+
+-- the line that the call puts where no put fails, or none
+abbrev pub IsLine : List (List ℕ) → World → List ℕ → Type 0
+IsLine words world line =
+    (IsMisread words × (line ≡ usage_line))
+    ⊎ (((file out source : List ℕ) × IsLeftOut words world file out source × (line ≡ refusal_line file source left_out))
+    ⊎ (((file out : List ℕ) × IsTooLong words world file out × (line ≡ bytes_limit_line file))
+    ⊎ (line ≡ [])))
+
+-- first a part of one line, and behind it a part of another
+pub record GainsParts (old new : SinkView) (first second : List ℕ) : Type 0 where
+  pub between : SinkView
+  pub one : GainsPart old between first
+  pub two : GainsPart between new second
+
+-- status 4: the shelf failed to save OUT, or err failed to take a line
+pub record IsWriteFault (words : List (List ℕ)) (old new : World) : Type 0 where
+  pub cause : ((file out : List ℕ) × IsBuild words file out × ShelfFails old.shelf new.shelf Save out) ⊎ Rose old.err.faults new.err.faults
+  -- only what OUT holds may have changed
+  pub others : (name : List ℕ) → ((file : List ℕ) → IsBuild words file name → ⊥) → new.shelf.held name ≡ old.shelf.held name
+  pub out : new.out ≡ old.out
+  pub line : List ℕ
+  pub is_line : IsLine words old line
+  pub err : GainsParts old.err new.err line write_fault_line
+
+-- status 5: the line names the limit
+pub record IsLimit (words : List (List ℕ)) (old new : World) : Type 0 where
+  pub file : List ℕ
+  pub out_name : List ℕ
+  pub cause : IsTooLong words old file out_name
+  pub says : Says old new (bytes_limit_line file)
+
+-- status 6, want of memory, is free
+pub record IsNoMemory (old new : World) : Type 0 where
+  pub held : SameHeld old.shelf new.shelf
+  pub out : new.out ≡ old.out
+  pub err : GainsPart old.err new.err no_memory_line
+
+-- the command answers a status, each with its cause and with what stands behind it
+pub data Answers (words : List (List ℕ)) (old new : World) (status : ℕ) : Type 0 where
+  built : status ≡ 0 → IsBuilt words old new → Answers words old new status
+  refused : status ≡ 1 → IsRefused words old new → Answers words old new status
+  usage : status ≡ 2 → IsUsage words old new → Answers words old new status
+  read_fault : status ≡ 3 → IsReadFault words old new → Answers words old new status
+  write_fault : status ≡ 4 → IsWriteFault words old new → Answers words old new status
+  limit : status ≡ 5 → IsLimit words old new → Answers words old new status
+  no_memory : status ≡ 6 → IsNoMemory old new → Answers words old new status
+
+-- no call of the outside failed
+pub record NothingFailed (old new : World) : Type 0 where
+  pub shelf : new.shelf.faults ≡ old.shelf.faults
+  pub err : new.err.faults ≡ old.err.faults
