@@ -2,6 +2,7 @@ mod CommandLemmas
 mod DecidedLemmas
 mod LineLemmas
 mod PrinterAnswers
+mod PrinterCode
 mod PrinterEnds
 mod PrinterLoop
 mod PrinterMemory

@@ -10,7 +10,7 @@ use Rattle.x64_table.specs.declared.instr.Instr.{Instr}
 use Rattle.x64_table.specs.Encoding.{encoding, decoded, IsRow}
 use Rattle.x64_table.specs.Machine.{Loaded, is_code, is_readable, is_range, byte_at, fetched}
 use Rattle.x64_table.specs.Kernel.{put_bytes}
-use Rattle.x64_table.proofs.Decode.{decoded-encoding}
+use Rattle.x64_table.proofs.Rows.{decoded-encoding}
 use Rattle.x64_table.proofs.Fetch.{fetched_in}
 use Rattle.oxml_driver.specs.Printer.{on_1}
 

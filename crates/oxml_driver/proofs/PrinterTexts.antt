@@ -1,16 +1,17 @@
 -- The program that writes texts: each text by its loop, then the exit.
-use Rattle.std.proofs.Common.{ℕ, ◌+◌, ◌-◌, ◌≤◌, ◌<◌, ◌^◌, ◌≡◌, ◌≢◌, Bool, true, false, List, [], ◌∷◌, ◌++◌, length, length-append, append-nil, add-zero, replicate, map, flat_map, ℤ, Some, None, refl, sym, ap, ◌∙◌, subst, arith, All, FitsSigned, eqb, cond, rules}
+use Rattle.std.proofs.Common.{ℕ, ◌+◌, ◌*◌, ◌-◌, ◌≤◌, ◌<◌, ◌^◌, ◌≡◌, ◌≢◌, Bool, true, false, List, [], ◌∷◌, ◌++◌, length, length-append, append-nil, add-zero, replicate, map, flat_map, ℤ, Some, None, refl, sym, ap, ◌∙◌, subst, arith, All, FitsSigned, eqb, cond, rules}
 use Rattle.std.specs.Int.{w64}
 use Rattle.std.proofs.lemmas.List.{take_all}
 use Rattle.std.proofs.lemmas.Bool.Decides.{nat_tests}
-use Rattle.x64_table.specs.declared.image.Segment.{Segment}
+use Rattle.x64_table.specs.declared.image.Sizes.{Sizes}
 use Rattle.x64_table.specs.declared.instr.Instr.{Instr}
 use Rattle.x64_table.specs.declared.instr.Instr.TheVariants.{MovImm}
 use Rattle.x64_table.specs.Encoding.{encoding, IsRow}
 use Rattle.x64_table.specs.Machine.{Loaded, fetched, in_memory, zeros}
 use Rattle.x64_table.specs.Kernel.{Run, start, after}
 use Rattle.x64_table.specs.Agreement.{Agrees, RunAgrees, no_excuse}
-use Rattle.oxml_driver.specs.Printer.{on_1, joined, prints, exit_with, write_loop, write_of, rows_of, printer_of, image_with}
+use Rattle.elf_image.specs.Layout.{image_of, words_segment}
+use Rattle.oxml_driver.specs.Printer.{on_1, joined, prints, exit_with, write_loop, write_of, rows_of, printer_of}
 use Rattle.oxml_driver.proofs.PrinterRun.{View, shown, imm_rax, imm_rdx, imm_rsi, imm_rdi, exit}
 use Rattle.oxml_driver.proofs.PrinterMemory.{data_part, HasRows, AreRows, has_rows, has_rows-from}
 use Rattle.oxml_driver.proofs.PrinterEnds.{Settles, by, finished, agrees}
@@ -138,6 +139,34 @@ loop_length : (place n : ℕ) (behind : List Instr) → code_length (write_loop 
 unfolding code_length
 loop_length place n behind = omega arith
 
+-- ---- how long the code is
+
+exit_length : (status : ℕ) → code_length (exit_with status) ≡ 22
+unfolding code_length
+exit_length status = refl
+
+write_length : (b : Bool) (place n rest : ℕ) (behind : List Instr) → eqb n 0 ≡ b → (22 ≤ code_length behind) × (code_length behind ≤ 22 + 112 * rest) → (22 ≤ code_length (cond b [] (write_loop place n) ++ behind)) × (code_length (cond b [] (write_loop place n) ++ behind) ≤ 22 + 112 * (n + rest))
+write_length true place n rest behind none h = (h.0, omega arith)
+write_length false place n rest behind some h =
+    let other = not_zero n some in
+    let long = loop_length place n behind in
+    (omega arith, omega arith)
+
+texts_length : (texts : List (List ℕ)) (place : ℕ) → (22 ≤ code_length (rows_of place texts)) × (code_length (rows_of place texts) ≤ 22 + 112 * length (joined texts))
+texts_length [] place = let e = exit_length 0 in (omega arith, omega arith)
+texts_length (text ∷ texts) place =
+    let long = length-append text (joined texts) in
+    let rows = rows_of (place + length text) texts in
+    let h = write_length (eqb (length text) 0) place (length text) (length (joined texts)) rows refl (texts_length texts (place + length text)) in
+    let P : ℕ → Type 0 = λ n. (22 ≤ code_length (write_of place (length text) ++ rows)) × (code_length (write_of place (length text) ++ rows) ≤ 22 + 112 * n) in
+    subst P (sym long) h
+
+-- a write has 112 bytes and the exit 22
+pub code_sizes : (texts : List (List ℕ)) → (22 ≤ length (printer_of texts).bytes) × (length (printer_of texts).bytes ≤ 22 + 112 * length (printer_of texts).literals)
+code_sizes texts =
+    let P : ℕ → Type 0 = λ n. (22 ≤ n) × (n ≤ 22 + 112 * length (joined texts)) in
+    subst P (code_length-is (rows_of 0x4000_0000 texts)) (texts_length texts 0x4000_0000)
+
 module _ (code literals padding : List ℕ) (others : List Loaded) (low : length code ≤ 1_060_004_096) (short : length literals ≤ 1_060_004_096) where
   -- the exit behind the last text
   leaves : (left : List ℤ) (k p : ℕ) (v : View) → v.at ≡ p + 0 → HasRows (memory code literals padding others) p 0 (exit_with 0) → length literals ≤ k → p < 2 ^ 63 → Settles (on_1 literals) (shown (memory code literals padding others) left false (so_far literals k) v)
@@ -201,12 +230,13 @@ loaded_whole at flags bytes =
     let none : length bytes - length bytes ≡ 0 = omega arith in
     ap (λ l. record { at = at; flags = flags; bytes = l }) (rw (take_all (length bytes) bytes (omega arith), none) (append-nil bytes))
 
-pub printer_agrees : (texts : List (List ℕ)) (rest : List Segment) → length (printer_of texts).bytes ≤ 1_060_004_096 → length (joined texts) ≤ 1_060_004_096 → Agrees (prints texts) no_excuse (image_with (printer_of texts) rest)
-printer_agrees texts rest low short answers fit =
+pub printer_agrees : (texts : List (List ℕ)) (sizes : Sizes) → length (printer_of texts).bytes ≤ 1_060_004_096 → length (joined texts) ≤ 1_060_004_096 → Agrees (prints texts) no_excuse (image_of (printer_of texts) sizes)
+printer_agrees texts sizes low short answers fit =
     let code = (printer_of texts).bytes in
     let literals = joined texts in
     let padding : List ℕ = replicate (8 - length literals) 0 in
-    let others : List Loaded = map in_memory rest in
+    let others : List Loaded =
+        map in_memory (words_segment 0x1_0000_0000 sizes.area ++ (words_segment 0x2_0000_0000 sizes.local ++ words_segment 0x3_0000_0000 sizes.stack)) in
     let small : 0x4000_0000 + length literals < 2 ^ 63 = omega (arith, short) in
     let rows = has_rows code (data_part literals padding ∷ others) [] (rows_of 0x4000_0000 texts) 0x40_0000 0 refl (are_rows texts 0x4000_0000 small) refl in
     let all = code_length-is (rows_of 0x4000_0000 texts) in
@@ -214,7 +244,7 @@ printer_agrees texts rest low short answers fit =
     let whole : 0 + length literals ≡ length literals = omega arith in
     let v : View = record { rax = None; rdx = None; rsi = None; rdi = None; flags = None; at = 0x40_0000 } in
     let settles = writes_all code literals padding others low short texts answers fit 0 0x40_0000 v refl rows whole near in
-    let begins : start (image_with (printer_of texts) rest) answers ≡ shown (memory code literals padding others) answers false [] v =
+    let begins : start (image_of (printer_of texts) sizes) answers ≡ shown (memory code literals padding others) answers false [] v =
     rw (loaded_whole 0x40_0000 5 code, loaded_whole 0x4000_0000 6 (literals ++ padding)) refl in
     let P : Run → Type 0 = λ r. RunAgrees (prints texts) no_excuse (λ n. after n r) in
     subst P (sym begins) (agrees (prints texts) (shown (memory code literals padding others) answers false [] v) refl settles)

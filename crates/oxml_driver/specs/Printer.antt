@@ -1,8 +1,7 @@
 -- The program in machine code that writes texts in order and then exits, and what it means.
-use Rattle.std.specs.Prelude.{ℕ, ◌+◌, ◌-◌, ◌==◌, if◌then◌else◌, List, [], ◌∷◌, ◌++◌, length, replicate, map, flat_map, pos, negsuc}
+use Rattle.std.specs.Prelude.{ℕ, ◌+◌, ◌==◌, if◌then◌else◌, List, [], ◌∷◌, ◌++◌, length, map, flat_map, pos, negsuc}
+use Rattle.oxml_base.specs.declared.literal.Lit.{Lit}
 use Rattle.x64_table.specs.declared.image.Code.{Code}
-use Rattle.x64_table.specs.declared.image.Image.{Image}
-use Rattle.x64_table.specs.declared.image.Segment.{Segment}
 use Rattle.x64_table.specs.declared.instr.ArithOp.TheVariants.{Add, Sub, Cmp}
 use Rattle.x64_table.specs.declared.instr.Cond.TheVariants.{E, NE, A}
 use Rattle.x64_table.specs.declared.instr.Instr.{Instr}
@@ -19,6 +18,10 @@ on_1 bytes = map (λ byte. (1, byte)) bytes
 -- the texts, one after another
 abbrev pub joined : List (List ℕ) → List ℕ
 joined texts = flat_map (λ text. text) texts
+
+-- the bytes of some literals
+abbrev pub bytes_of : List Lit → List (List ℕ)
+bytes_of lits = map (λ lit. lit.bytes) lits
 
 -- it writes the texts on channel 1 and ends with the status 0, whatever the bound
 abbrev pub prints : List (List ℕ) → ℕ → Meant
@@ -55,20 +58,3 @@ rows_of place (text ∷ texts) = write_of place (length text) ++ rows_of (place 
 -- the code with its literals, which lie at the literals' place in the image
 abbrev pub printer_of : List (List ℕ) → Code
 printer_of texts = record { bytes = flat_map encoding (rows_of 0x4000_0000 texts); literals = joined texts }
-
--- ---- the image
-
--- the literals, at least 8 bytes
-abbrev pub data_of : Code → List ℕ
-data_of c = c.literals ++ replicate (8 - length c.literals) 0
-
--- an image that begins with the segments of a code and of its literals
-abbrev pub image_with : Code → List Segment → Image
-image_with c rest =
-    record {
-      entry = 0x40_0000;
-      segments =
-          record { at = 0x40_0000; size = length c.bytes; flags = 5; bytes = c.bytes }
-          ∷ record { at = 0x4000_0000; size = length (data_of c); flags = 6; bytes = data_of c }
-          ∷ rest;
-    }

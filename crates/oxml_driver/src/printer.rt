@@ -1,13 +1,162 @@
 //! The program in machine code that writes texts and then exits.
-ghost use Rattle.std.specs.Prelude.{ℕ, ◌≤◌, List, length};
-ghost use Rattle.x64_table.specs.declared.image.Segment.{Segment};
+ghost use Rattle.std.specs.Prelude.{ℕ, ◌≡◌, ◌+◌, ◌*◌, ◌<◌, ◌^◌, ◌≤◌, ◌++◌, List, length, map, flat_map, IfOk, OnOk};
+ghost use Rattle.x64_table.specs.declared.image.Sizes.{Sizes};
 ghost use Rattle.x64_table.specs.Agreement.{Agrees, no_excuse};
-ghost use Rattle.oxml_driver.specs.Printer.{image_with, joined, printer_of, prints};
+ghost use Rattle.x64_table.specs.Encoding.{encoding};
+ghost use Rattle.elf_image.specs.Layout.{image_of};
+ghost use Rattle.oxml_driver.specs.Printer.{joined, printer_of, prints, exit_with, write_loop, write_of, rows_of, bytes_of};
+
+use oxml_base::{Items, Lit, NoMemory};
+use std::alloc::Global;
+use x64_table::{ArithOp, Code, Cond, Instr, Reg, form_of};
 
 /// A law: whatever the kernel answers, and after every number of steps, the program that is made for
 /// some texts does what it means. It writes the texts on channel 1, goes on with the rest behind a short
-/// write, ends with the status 0, and with the status 104 only behind a refused write. The image may have
-/// any further segments.
+/// write, ends with the status 0, and with the status 104 only behind a refused write.
 pub fn printers_agree()
-    ensures { (texts : List (List ℕ)) (rest : List Segment) → length (printer_of texts).bytes ≤ 1_060_004_096 → length (joined texts) ≤ 1_060_004_096 → Agrees (prints texts) no_excuse (image_with (printer_of texts) rest) }
+    ensures { (texts : List (List ℕ)) (sizes : Sizes) → length (printer_of texts).bytes ≤ 1_060_004_096 → length (joined texts) ≤ 1_060_004_096 → Agrees (prints texts) no_excuse (image_of (printer_of texts) sizes) }
 {}
+
+/// The address of the literals in an image.
+const LITERALS_AT: u64 = 0x4000_0000;
+
+/// The code that writes `texts`, one after another, on channel 1 and then exits with the status 0; its
+/// literals are the texts' bytes.
+pub fn printer(alloc: Global, texts: &[Lit]) -> Result<Code, NoMemory>
+    requires { length (joined (bytes_of texts.now)) ≤ 1_060_004_096 }
+    ensures code { IfOk result (λ c. c ≡ printer_of (bytes_of texts.now)) }
+    ensures least { IfOk result (λ c. 22 ≤ length c.bytes) }
+    ensures most { IfOk result (λ c. length c.bytes ≤ 22 + 112 * length c.literals) }
+{
+    let mut bytes = Vec::new(alloc);
+    let mut literals = Vec::new(alloc);
+    for text in texts {
+        let place = LITERALS_AT + literals.len() as u64;
+        add_write(&mut bytes, place, text.bytes.len() as u64)?;
+        literals.extend_from_slice(text.bytes.as_slice())?;
+    }
+    add_exit(&mut bytes, 0)?;
+    Ok(Code {
+        bytes: Items::from_vec(bytes),
+        literals: Items::from_vec(literals),
+    })
+}
+
+fn register(number: u8) -> Reg
+    requires { number < 16 }
+    ensures { result ≡ number }
+{
+    Reg::new(number).unwrap()
+}
+
+fn add(bytes: &mut Vec<u8>, row: &Instr) -> Result<(), NoMemory>
+    ensures { OnOk result (bytes.new.items ≡ bytes.old.items ++ encoding row.now) }
+{
+    let (form, length) = form_of(row);
+    bytes.extend_from_slice(&form[..length as usize])?;
+    Ok(())
+}
+
+fn add_all(bytes: &mut Vec<u8>, rows: &[Instr]) -> Result<(), NoMemory>
+    ensures { OnOk result (bytes.new.items ≡ bytes.old.items ++ flat_map encoding rows.now) }
+{
+    for row in rows {
+        add(bytes, row)?;
+    }
+    Ok(())
+}
+
+/// The program ends with a status.
+fn add_exit(bytes: &mut Vec<u8>, status: u64) -> Result<(), NoMemory>
+    ensures { OnOk result (bytes.new.items ≡ bytes.old.items ++ flat_map encoding (exit_with status)) }
+{
+    let rows = [
+        Instr::MovImm {
+            dst: register(0),
+            imm: 60,
+        },
+        Instr::MovImm {
+            dst: register(7),
+            imm: status,
+        },
+        Instr::Syscall,
+    ];
+    add_all(bytes, &rows)
+}
+
+/// `length` bytes from `place` on are written, unless there are none.
+fn add_write(bytes: &mut Vec<u8>, place: u64, length: u64) -> Result<(), NoMemory>
+    ensures { OnOk result (bytes.new.items ≡ bytes.old.items ++ flat_map encoding (write_of place length)) }
+{
+    if length == 0 {
+        Ok(())
+    } else {
+        add_write_loop(bytes, place, length)
+    }
+}
+
+/// Each write asks for all that is left. One that a signal broke off is tried again, and one that is
+/// refused otherwise ends the program with the status 104.
+fn add_write_loop(bytes: &mut Vec<u8>, place: u64, length: u64) -> Result<(), NoMemory>
+    ensures { OnOk result (bytes.new.items ≡ bytes.old.items ++ flat_map encoding (write_loop place length)) }
+{
+    let (rax, rdx, rsi, rdi) = (register(0), register(2), register(6), register(7));
+    let rows = [
+        Instr::MovImm {
+            dst: rsi,
+            imm: place,
+        },
+        Instr::MovImm {
+            dst: rdx,
+            imm: length,
+        },
+        // the call's number and the channel
+        Instr::MovImm { dst: rax, imm: 1 },
+        Instr::MovImm { dst: rdi, imm: 1 },
+        Instr::Syscall,
+        // -4, EINTR: again from the call's number on
+        Instr::ArithImm {
+            op: ArithOp::Cmp,
+            dst: rax,
+            imm: -4,
+        },
+        Instr::JumpIf {
+            cond: Cond::E,
+            rel: -35,
+        },
+        // nothing, or more than was asked for, as every negative number without sign is
+        Instr::Test { a: rax, b: rax },
+        Instr::JumpIf {
+            cond: Cond::E,
+            rel: 26,
+        },
+        Instr::Arith {
+            op: ArithOp::Cmp,
+            dst: rax,
+            src: rdx,
+        },
+        Instr::JumpIf {
+            cond: Cond::A,
+            rel: 17,
+        },
+        // the rest, if there is one, from the call's number on
+        Instr::Arith {
+            op: ArithOp::Add,
+            dst: rsi,
+            src: rax,
+        },
+        Instr::Arith {
+            op: ArithOp::Sub,
+            dst: rdx,
+            src: rax,
+        },
+        Instr::JumpIf {
+            cond: Cond::NE,
+            rel: -65,
+        },
+        // past the exit
+        Instr::Jump { rel: 22 },
+    ];
+    add_all(bytes, &rows)?;
+    add_exit(bytes, 104)
+}

@@ -2,7 +2,7 @@
 use Rattle.std.specs.Prelude.{ℕ, ◌≡◌, ◌⊎◌, true, false, List, ◌++◌, ℤ, All, FitsSigned}
 use Rattle.std.specs.Int.{w64}
 use Rattle.x64_table.specs.declared.image.Image.{Image}
-use Rattle.x64_table.specs.Kernel.{Ending, Exited, Faulted, Run, start, after}
+use Rattle.x64_table.specs.Kernel.{Exited, Faulted, Run, start, after}
 
 -- how a program ends within a bound: with a status, or not yet
 pub data Outcome : Type 0 where

@@ -1,7 +1,8 @@
 -- The bytes of each instruction, after the Intel 64 manual, volume 2, in one form each.
-use Rattle.std.specs.Prelude.{ℕ, ◌+◌, ◌*◌, ◌/◌, ◌%◌, ◌^◌, ◌<◌, Bool, true, List, [], ◌∷◌, length, ℤ, if◌then◌else◌, ◌==◌, nat_lt, nat_eq, slice_index, FitsSigned, Option, Some, None}
+use Rattle.std.specs.Prelude.{ℕ, ◌+◌, ◌-◌, ◌*◌, ◌/◌, ◌%◌, ◌^◌, ◌<◌, Bool, true, List, [], ◌∷◌, ◌++◌, length, drop, ◌≡◌, ◌≢◌, ℤ, if◌then◌else◌, ◌==◌, nat_lt, nat_eq, slice_index, FitsSigned, replicate, option_map, Option, Some, None}
 use Rattle.std.specs.Int.{w32, w64, to_le_bytes, from_le_bytes, cast_signed, cast_unsigned}
 use Rattle.std.specs.List.{starts_with}
+pub use Rattle.x64_table.specs.Numbers.{register}
 use Rattle.x64_table.specs.declared.instr.ArithOp.{ArithOp}
 use Rattle.x64_table.specs.declared.instr.ArithOp.TheVariants.{Add, Or, And, Sub, Xor, Cmp}
 use Rattle.x64_table.specs.declared.instr.ShiftOp.{ShiftOp}
@@ -113,10 +114,6 @@ IsRow Syscall = Unit {0}
 
 -- ---- reading: the one row that can begin so is guessed, and then compared
 
--- a register number: its top bit, and its low three bits in a byte
-abbrev pub register : ℕ → ℕ → ℕ
-register high low = 8 * (high % 2) + low % 8
-
 -- the four bytes from k on, with sign
 abbrev pub signed_at : List ℕ → ℕ → ℤ
 signed_at bytes k =
@@ -215,15 +212,33 @@ guess bytes =
 abbrev pub begins_with : List ℕ → List ℕ → Bool
 begins_with bytes front = starts_with nat_eq bytes front
 
--- the instruction, if it is a row and the bytes begin with it
-abbrev pub checked : Instr → List ℕ → Option (Instr × ℕ)
-checked i bytes = if begins_with bytes (encoding i) then Some (i, length (encoding i)) else None
+-- the length of the instruction, if the bytes begin with it
+abbrev pub length_at : List ℕ → Instr → Option ℕ
+length_at bytes i = if begins_with bytes (encoding i) then Some (length (encoding i)) else None
 
 -- a count of 64 and more has no row
 abbrev pub is_row : Instr → Bool
 is_row (ShiftImm op dst count) = nat_lt count 64
 is_row _ = true
 
+abbrev pub read_row : List ℕ → Option (Instr × ℕ)
+read_row bytes =
+    if is_row (guess bytes) then option_map (λ n. (guess bytes, n)) (length_at bytes (guess bytes)) else None
+
 -- the row that the bytes begin with, and its length
 unfoldable pub decoded : List ℕ → Option (Instr × ℕ)
-decoded bytes = if is_row (guess bytes) then checked (guess bytes) bytes else None
+decoded bytes = read_row bytes
+
+-- the bytes and zeros up to 15, and how many bytes there are
+abbrev pub padded : List ℕ → List ℕ × ℕ
+padded bytes = (bytes ++ replicate (15 - length bytes) 0, length bytes)
+
+-- the bytes begin with the encoding of this instruction, which is a row, and has n bytes
+pub record ReadsRow (bytes : List ℕ) (i : Instr) (n : ℕ) : Type 0 where
+  pub row : is_row i ≡ true
+  pub whole : n ≡ length (encoding i)
+  pub front : bytes ≡ encoding i ++ drop n bytes
+
+-- the bytes begin with no row
+abbrev pub BeginsNoRow : List ℕ → Type 0
+BeginsNoRow bytes = (i : Instr) (rest : List ℕ) → IsRow i → bytes ≢ encoding i ++ rest

@@ -222,27 +222,30 @@ bytes_in a n s = take n (drop (a - s.at) s.bytes)
 abbrev pub byte_at : List Loaded → ℕ → Option ℕ
 byte_at segments a = option_map (byte_in a) (find (λ s. holds s a 1) segments)
 
-abbrev pub put_first : ℕ → Option (List ℕ) → Option (List ℕ)
-put_first b None = None
-put_first b (Some bs) = Some (b ∷ bs)
+abbrev pub push_last : Option (List ℕ) → Option ℕ → Option (List ℕ)
+push_last None b = None
+push_last (Some bytes) None = None
+push_last (Some bytes) (Some b) = Some (bytes ++ b ∷ [])
 
 -- the bytes at n places from a on, if each of them is there. An access goes byte by byte where
 -- no segment holds all of it
 unfoldable pub each_byte : (ℕ → Option ℕ) → ℕ → ℕ → Option (List ℕ)
 each_byte byte zero a = Some []
-each_byte byte (suc n) a =
-    elim (byte a) [ None ↦ None | Some b ↦ put_first b (each_byte byte n ((a + 1) % 2 ^ 64)) ]
+each_byte byte (suc n) a = push_last (each_byte byte n a) (byte ((a + n) % 2 ^ 64))
 
 -- each of n places from a on passes
 unfoldable pub each_place : (ℕ → Bool) → ℕ → ℕ → Bool
 each_place test zero a = true
-each_place test (suc n) a = test a && each_place test n ((a + 1) % 2 ^ 64)
+each_place test (suc n) a = each_place test n a && test ((a + n) % 2 ^ 64)
+
+abbrev pub run_on : Option ℕ → List ℕ → List ℕ
+run_on None rest = []
+run_on (Some b) rest = b ∷ rest
 
 -- the bytes from a on up to the first that is not there, n at most
 unfoldable pub run_of_bytes : (ℕ → Option ℕ) → ℕ → ℕ → List ℕ
 run_of_bytes byte zero a = []
-run_of_bytes byte (suc n) a =
-    elim (byte a) [ None ↦ [] | Some b ↦ b ∷ run_of_bytes byte n ((a + 1) % 2 ^ 64) ]
+run_of_bytes byte (suc n) a = run_on (byte a) (run_of_bytes byte n ((a + 1) % 2 ^ 64))
 
 abbrev pub readable_byte : State → ℕ → Option ℕ
 readable_byte s a = option_map (byte_in a) (find (is_readable s.cpu a 1) s.segments)
@@ -428,15 +431,21 @@ done Syscall n s = with s (reg s.cpu 0) (λ number. system s number)
 
 -- ---- a step
 
-abbrev pub or_else : Option (Instr × ℕ) → List Loaded → ℕ → Option (Instr × ℕ)
-or_else (Some row) segments a = Some row
-or_else None segments a =
-    decoded (run_of_bytes (λ place. option_map (byte_in place) (find (is_code place) segments)) 15 a)
+-- the byte at a place, if it may be executed
+abbrev pub code_byte : List Loaded → ℕ → Option ℕ
+code_byte segments a = option_map (byte_in a) (find (is_code a) segments)
+
+abbrev pub fetched_across : List Loaded → ℕ → Option (Instr × ℕ)
+fetched_across segments a = decoded (run_of_bytes (code_byte segments) 15 a)
+
+abbrev pub or_across : Option (Instr × ℕ) → List Loaded → ℕ → Option (Instr × ℕ)
+or_across (Some row) segments a = Some row
+or_across None segments a = fetched_across segments a
 
 -- the row that stands at a in a segment that holds that place, or runs on into the next one
 abbrev pub fetch_in : List Loaded → ℕ → Option Loaded → Option (Instr × ℕ)
 fetch_in segments a None = None
-fetch_in segments a (Some s) = or_else (decoded (drop (a - s.at) s.bytes)) segments a
+fetch_in segments a (Some s) = or_across (decoded (drop (a - s.at) s.bytes)) segments a
 
 -- the instruction at a, with its length: only segments to execute are fetched from
 unfoldable pub fetched : List Loaded → ℕ → Option (Instr × ℕ)

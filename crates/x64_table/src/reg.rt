@@ -1,4 +1,5 @@
 ghost use Rattle.std.specs.Prelude.{◌≡◌, ◌<◌, ◌≤◌, IfSome, IfNone};
+ghost use Rattle.x64_table.specs.Numbers.{register};
 
 use std::marker::Model;
 
@@ -41,5 +42,14 @@ impl Reg {
         ensures below { result < 16 }
     {
         self.number
+    }
+
+    /// The register with this top bit, the lowest of `high`, and the three low bits of `low`.
+    pub(crate) fn from_bits(high: u8, low: u8) -> Reg
+        ensures { result ≡ register high low }
+    {
+        Reg {
+            number: 8 * (high % 2) + low % 8,
+        }
     }
 }

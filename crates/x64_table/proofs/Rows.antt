@@ -1,6 +1,6 @@
 -- What is encoded reads back as itself, and what reads is a row that the bytes begin with. So no
 -- bytes begin with two rows.
-use Rattle.std.proofs.Common.{ℕ, ◌+◌, ◌/◌, ◌%◌, ◌^◌, ◌<◌, ◌≡◌, true, false, eqb, List, ◌++◌, length, drop, ℤ, FitsSigned, refl, sym, ap, ◌∙◌, arith, nat_eq, nat_lt, Option, Some, None, if◌then◌else◌}
+use Rattle.std.proofs.Common.{ℕ, ◌+◌, ◌/◌, ◌%◌, ◌^◌, ◌<◌, ◌≡◌, true, false, eqb, List, ◌++◌, length, drop, ℤ, FitsSigned, refl, IfSome, subst, IfNone, option_map, sym, ap, ◌∙◌, arith, nat_eq, nat_lt, Option, Some, None, if◌then◌else◌, Bool, take}
 use Rattle.std.specs.Int.{w32}
 use Rattle.std.proofs.lemmas.Nat.{from_le_bytes-to_le_bytes_8}
 use Rattle.std.proofs.lemmas.Slice.Eq.{starts_is}
@@ -13,7 +13,8 @@ use Rattle.x64_table.specs.declared.instr.Cond.{Cond}
 use Rattle.x64_table.specs.declared.instr.Cond.TheVariants.{B, AE, E, NE, BE, A, L, GE, LE, G}
 use Rattle.x64_table.specs.declared.instr.Instr.{Instr}
 use Rattle.x64_table.specs.declared.instr.Instr.TheVariants.{MovReg, MovImm, Load, Store, LoadByte, StoreByte, Lea, Arith, ArithImm, Test, Imul, Cqo, Neg, Idiv, ShiftImm, ShiftCl, Jump, Call, JumpIf, CallReg, JumpReg, Ret, Syscall}
-use Rattle.x64_table.specs.Encoding.{encoding, IsRow, is_row, guess, checked, decoded, begins_with, rex_w, rex_n, direct, register}
+use Rattle.x64_table.specs.Encoding.{ReadsRow, BeginsNoRow, encoding, IsRow, is_row, guess, length_at, read_row, decoded, begins_with, rex_w, rex_n, direct, register}
+use Rattle.std.proofs.Math.Seq.{take-append_seam}
 use Rattle.x64_table.proofs.Formats.{yes, no, rex_w-first, rex_n-first, field_r, field_b, extension, direct-mode, memory-mode, signed_back, displacement_2, displacement_3}
 
 -- ---- the rows, format by format
@@ -210,7 +211,7 @@ pub begins-split : (bytes front : List ℕ) → begins_with bytes front ≡ true
 begins-split bytes front h =
     (starts_is {E = nat_eq} Decides-eqb bytes front (begins_with bytes front) refl).0 h
 
-decoded-by : (i g : Instr) (bytes : List ℕ) → g ≡ i → is_row i ≡ true → begins_with bytes (encoding i) ≡ true → (if is_row g then checked g bytes else None) ≡ Some (i, length (encoding i))
+decoded-by : (i g : Instr) (bytes : List ℕ) → g ≡ i → is_row i ≡ true → begins_with bytes (encoding i) ≡ true → (if is_row g then option_map {U = Instr × ℕ} (λ (n : ℕ). (g, n)) (length_at bytes g) else None) ≡ Some (i, length (encoding i))
 decoded-by i g bytes e row begins = rw (e, row, begins) refl
 
 -- what is encoded reads back as itself, whatever stands behind it
@@ -227,3 +228,39 @@ row_or i (Some row) = row.0
 pub one_row : (i j : Instr) (a b : List ℕ) → IsRow i → IsRow j → encoding i ++ a ≡ encoding j ++ b → i ≡ j
 one_row i j a b hi hj e =
     ap (row_or i) (sym (decoded-encoding i a hi) ∙ ap decoded e ∙ decoded-encoding j b hj)
+
+abbrev pub IfReads : List ℕ → Option (Instr × ℕ) → Type 0
+IfReads bytes o = IfSome o (λ (row : Instr × ℕ). ReadsRow bytes row.0 row.1)
+
+checked-reads : (i : Instr) (bytes : List ℕ) (b r : Bool) → begins_with bytes (encoding i) ≡ b → is_row i ≡ r → IfReads bytes (if r then option_map {U = Instr × ℕ} (λ (n : ℕ). (i, n)) (if b then Some (length (encoding i)) else None) else None)
+checked-reads i bytes b false begins row = tt
+checked-reads i bytes false true begins row = tt
+checked-reads i bytes true true begins row =
+    record { row = row; whole = refl; front = begins-split bytes (encoding i) begins }
+
+-- what reads is a row that the bytes begin with
+pub decoded-reads : (bytes : List ℕ) → IfReads bytes (decoded bytes)
+unfolding decoded
+decoded-reads bytes = checked-reads (guess bytes) bytes _ _ refl refl
+
+-- where nothing reads, no row stands
+pub decoded-none : (bytes : List ℕ) → decoded bytes ≡ None → BeginsNoRow bytes
+decoded-none bytes none i rest h e =
+    let some = decoded-encoding i rest h in
+    let at : decoded bytes ≡ decoded (encoding i ++ rest) = ap decoded e in
+    cc
+
+none_of : (bytes : List ℕ) (o : Option (Instr × ℕ)) → o ≡ decoded bytes → IfNone o (BeginsNoRow bytes)
+none_of bytes None e = decoded-none bytes (sym e)
+none_of bytes (Some row) e = tt
+
+-- what a reading is, by the value alone
+pub reading : (bytes : List ℕ) (o : Option (Instr × ℕ)) → o ≡ read_row bytes → (o ≡ decoded bytes) × (IfReads bytes o × IfNone o (BeginsNoRow bytes))
+unfolding decoded
+reading bytes o e =
+    let is : o ≡ decoded bytes = e in
+    (e, (subst (IfReads bytes) (sym is) (decoded-reads bytes), none_of bytes o is))
+
+-- the encoding is what stands before the zeros
+pub front_of_padded : (front rest : List ℕ) → take (length front) (front ++ rest) ≡ front
+front_of_padded front rest = take-append_seam front rest
