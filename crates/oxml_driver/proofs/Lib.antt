@@ -1,4 +1,5 @@
 mod CommandLemmas
+mod CompileLemmas
 mod DecidedLemmas
 mod LineLemmas
 mod PrinterAnswers
