@@ -236,7 +236,7 @@ printer_agrees texts sizes low short answers fit =
     let literals = joined texts in
     let padding : List ℕ = replicate (8 - length literals) 0 in
     let others : List Loaded =
-        map in_memory (words_segment 0x1_0000_0000 sizes.area ++ (words_segment 0x2_0000_0000 sizes.local ++ words_segment 0x3_0000_0000 sizes.stack)) in
+    map in_memory (words_segment 0x1_0000_0000 sizes.area ++ (words_segment 0x2_0000_0000 sizes.local ++ words_segment 0x3_0000_0000 sizes.stack)) in
     let small : 0x4000_0000 + length literals < 2 ^ 63 = omega (arith, short) in
     let rows = has_rows code (data_part literals padding ∷ others) [] (rows_of 0x4000_0000 texts) 0x40_0000 0 refl (are_rows texts 0x4000_0000 small) refl in
     let all = code_length-is (rows_of 0x4000_0000 texts) in

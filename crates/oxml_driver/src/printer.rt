@@ -1,14 +1,16 @@
 //! The program in machine code that writes texts and then exits.
-ghost use Rattle.std.specs.Prelude.{ℕ, ◌≡◌, ◌+◌, ◌*◌, ◌<◌, ◌^◌, ◌≤◌, ◌++◌, List, length, map, flat_map, IfOk, OnOk};
+ghost use Rattle.std.specs.Prelude.{ℕ, ◌≡◌, ◌+◌, ◌*◌, ◌<◌, ◌^◌, ◌≤◌, ◌++◌, List, length, map, flat_map, IfOk, OnOk, IsTrue, true};
+ghost use Rattle.std.specs.List.{list_all};
 ghost use Rattle.x64_table.specs.declared.image.Sizes.{Sizes};
 ghost use Rattle.x64_table.specs.Agreement.{Agrees, no_excuse};
-ghost use Rattle.x64_table.specs.Encoding.{encoding};
+ghost use Rattle.x64_table.specs.Encoding.{encoding, is_row};
 ghost use Rattle.elf_image.specs.Layout.{image_of};
 ghost use Rattle.oxml_driver.specs.Printer.{joined, printer_of, prints, exit_with, write_loop, write_of, rows_of, bytes_of};
 
 use oxml_base::{Items, Lit, NoMemory};
 use std::alloc::Global;
-use x64_table::{ArithOp, Code, Cond, Instr, Reg, form_of};
+use x64_encode::encode;
+use x64_table::{ArithOp, Code, Cond, Instr, Reg};
 
 /// A law: whatever the kernel answers, and after every number of steps, the program that is made for
 /// some texts does what it means. It writes the texts on channel 1, goes on with the rest behind a short
@@ -50,14 +52,16 @@ fn register(number: u8) -> Reg
 }
 
 fn add(bytes: &mut Vec<u8>, row: &Instr) -> Result<(), NoMemory>
+    requires { is_row row.now ≡ true }
     ensures { OnOk result (bytes.new.items ≡ bytes.old.items ++ encoding row.now) }
 {
-    let (form, length) = form_of(row);
+    let (form, length) = encode(*row);
     bytes.extend_from_slice(&form[..length as usize])?;
     Ok(())
 }
 
 fn add_all(bytes: &mut Vec<u8>, rows: &[Instr]) -> Result<(), NoMemory>
+    requires { IsTrue (list_all is_row rows.now) }
     ensures { OnOk result (bytes.new.items ≡ bytes.old.items ++ flat_map encoding rows.now) }
 {
     for row in rows {
