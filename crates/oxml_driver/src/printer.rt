@@ -5,7 +5,7 @@ ghost use Rattle.x64_table.specs.declared.image.Sizes.{Sizes};
 ghost use Rattle.x64_table.specs.Agreement.{Agrees, no_excuse};
 ghost use Rattle.x64_table.specs.Encoding.{encoding, is_row};
 ghost use Rattle.elf_image.specs.Layout.{image_of};
-ghost use Rattle.oxml_driver.specs.Printer.{joined, printer_of, prints, exit_with, write_loop, write_of, rows_of, bytes_of};
+ghost use Rattle.oxml_driver.specs.Printer.{joined, printer_of, prints, exit_with, ask_rows, answer_rows, rest_rows, write_loop, write_of, bytes_of};
 
 use oxml_base::{Items, Lit, NoMemory};
 use std::alloc::Global;
@@ -104,21 +104,45 @@ fn add_write(bytes: &mut Vec<u8>, place: u64, length: u64) -> Result<(), NoMemor
 fn add_write_loop(bytes: &mut Vec<u8>, place: u64, length: u64) -> Result<(), NoMemory>
     ensures { OnOk result (bytes.new.items ≡ bytes.old.items ++ flat_map encoding (write_loop place length)) }
 {
-    let (rax, rdx, rsi, rdi) = (register(0), register(2), register(6), register(7));
+    add_ask(bytes, place, length)?;
+    add_answer(bytes)?;
+    add_rest(bytes)?;
+    add_exit(bytes, 104)
+}
+
+/// The kernel is asked to write `length` bytes from `place` on.
+fn add_ask(bytes: &mut Vec<u8>, place: u64, length: u64) -> Result<(), NoMemory>
+    ensures { OnOk result (bytes.new.items ≡ bytes.old.items ++ flat_map encoding (ask_rows place length)) }
+{
     let rows = [
         Instr::MovImm {
-            dst: rsi,
+            dst: register(6),
             imm: place,
         },
         Instr::MovImm {
-            dst: rdx,
+            dst: register(2),
             imm: length,
         },
         // the call's number and the channel
-        Instr::MovImm { dst: rax, imm: 1 },
-        Instr::MovImm { dst: rdi, imm: 1 },
+        Instr::MovImm {
+            dst: register(0),
+            imm: 1,
+        },
+        Instr::MovImm {
+            dst: register(7),
+            imm: 1,
+        },
         Instr::Syscall,
-        // -4, EINTR: again from the call's number on
+    ];
+    add_all(bytes, &rows)
+}
+
+/// What the answer in rax leads to: the write again, from the call's number on, or the exit.
+fn add_answer(bytes: &mut Vec<u8>) -> Result<(), NoMemory>
+    ensures { OnOk result (bytes.new.items ≡ bytes.old.items ++ flat_map encoding answer_rows) }
+{
+    let rax = register(0);
+    let rows = [
         Instr::ArithImm {
             op: ArithOp::Cmp,
             dst: rax,
@@ -128,7 +152,6 @@ fn add_write_loop(bytes: &mut Vec<u8>, place: u64, length: u64) -> Result<(), No
             cond: Cond::E,
             rel: -35,
         },
-        // nothing, or more than was asked for, as every negative number without sign is
         Instr::Test { a: rax, b: rax },
         Instr::JumpIf {
             cond: Cond::E,
@@ -137,16 +160,25 @@ fn add_write_loop(bytes: &mut Vec<u8>, place: u64, length: u64) -> Result<(), No
         Instr::Arith {
             op: ArithOp::Cmp,
             dst: rax,
-            src: rdx,
+            src: register(2),
         },
         Instr::JumpIf {
             cond: Cond::A,
             rel: 17,
         },
-        // the rest, if there is one, from the call's number on
+    ];
+    add_all(bytes, &rows)
+}
+
+/// The rest, if there is one, from the call's number on; else past the exit.
+fn add_rest(bytes: &mut Vec<u8>) -> Result<(), NoMemory>
+    ensures { OnOk result (bytes.new.items ≡ bytes.old.items ++ flat_map encoding rest_rows) }
+{
+    let (rax, rdx) = (register(0), register(2));
+    let rows = [
         Instr::Arith {
             op: ArithOp::Add,
-            dst: rsi,
+            dst: register(6),
             src: rax,
         },
         Instr::Arith {
@@ -158,9 +190,7 @@ fn add_write_loop(bytes: &mut Vec<u8>, place: u64, length: u64) -> Result<(), No
             cond: Cond::NE,
             rel: -65,
         },
-        // past the exit
         Instr::Jump { rel: 22 },
     ];
-    add_all(bytes, &rows)?;
-    add_exit(bytes, 104)
+    add_all(bytes, &rows)
 }
