@@ -32,3 +32,6 @@ code_step bytes mid literals more text texts all place count here long longer be
 pub literals_step : (literals more text : List ℕ) (texts : List (List ℕ)) (all : List ℕ) → more ≡ literals ++ text → literals ++ joined (text ∷ texts) ≡ all → more ++ joined texts ≡ all
 literals_step literals more text texts all longer before =
     ap (λ l. l ++ joined texts) longer ∙ append_assoc literals text (joined texts) ∙ before
+
+pub four_parts : (old b_1 b_2 b_3 new p_1 p_2 p_3 p_4 : List ℕ) → b_1 ≡ old ++ p_1 → b_2 ≡ b_1 ++ p_2 → b_3 ≡ b_2 ++ p_3 → new ≡ b_3 ++ p_4 → new ≡ old ++ (p_1 ++ (p_2 ++ (p_3 ++ p_4)))
+four_parts old b_1 b_2 b_3 new p_1 p_2 p_3 p_4 e_1 e_2 e_3 e_4 = rw (e_4, e_3, e_2, e_1) (simp append_assoc)

@@ -33,18 +33,27 @@ prints texts bound = record { ending = Ends 0; out = on_1 (joined texts) }
 abbrev pub exit_with : ℕ → List Instr
 exit_with status = MovImm 0 60 ∷ MovImm 7 status ∷ Syscall ∷ []
 
--- n bytes from a place on are written: each write asks for all that is left. A write that a signal
--- broke off (-4, EINTR) is tried again, and one that is refused otherwise ends the program
-abbrev pub write_loop : ℕ → ℕ → List Instr
-write_loop place n =
-    MovImm 6 place ∷ MovImm 2 n
-    ∷ MovImm 0 1 ∷ MovImm 7 1 ∷ Syscall
-    ∷ ArithImm Cmp 0 (negsuc 3) ∷ JumpIf E (negsuc 34)
+-- the kernel is asked to write n bytes from a place on; from the call's number on it is asked again
+-- with what is left
+abbrev pub ask_rows : ℕ → ℕ → List Instr
+ask_rows place n = MovImm 6 place ∷ MovImm 2 n ∷ MovImm 0 1 ∷ MovImm 7 1 ∷ Syscall ∷ []
+
+-- a write that a signal broke off (-4, EINTR) is tried again; behind an answer of 0, or of more bytes than
+-- were asked for, as every other negative number is without its sign, the program gives up
+abbrev pub answer_rows : List Instr
+answer_rows =
+    ArithImm Cmp 0 (negsuc 3) ∷ JumpIf E (negsuc 34)
     ∷ Test 0 0 ∷ JumpIf E (pos 26)
     ∷ Arith Cmp 0 2 ∷ JumpIf A (pos 17)
-    ∷ Arith Add 6 0 ∷ Arith Sub 2 0 ∷ JumpIf NE (negsuc 64)
-    ∷ Jump (pos 22)
-    ∷ exit_with 104
+    ∷ []
+
+-- what was written is behind it, and the rest, if there is one, is asked for; else it goes on past the exit
+abbrev pub rest_rows : List Instr
+rest_rows = Arith Add 6 0 ∷ Arith Sub 2 0 ∷ JumpIf NE (negsuc 64) ∷ Jump (pos 22) ∷ []
+
+-- n bytes from a place on are written, or the program ends with the status 104
+abbrev pub write_loop : ℕ → ℕ → List Instr
+write_loop place n = ask_rows place n ++ (answer_rows ++ (rest_rows ++ exit_with 104))
 
 -- a text of no bytes is not asked for
 abbrev pub write_of : ℕ → ℕ → List Instr

@@ -1,14 +1,16 @@
 //! The program in machine code that writes texts and then exits.
-ghost use Rattle.std.specs.Prelude.{ℕ, ◌≡◌, ◌+◌, ◌*◌, ◌<◌, ◌^◌, ◌≤◌, ◌++◌, List, length, map, flat_map, IfOk, OnOk};
+ghost use Rattle.std.specs.Prelude.{ℕ, ◌≡◌, ◌+◌, ◌*◌, ◌<◌, ◌^◌, ◌≤◌, ◌++◌, List, length, map, flat_map, IfOk, OnOk, IsTrue, true};
+ghost use Rattle.std.specs.List.{list_all};
 ghost use Rattle.x64_table.specs.declared.image.Sizes.{Sizes};
 ghost use Rattle.x64_table.specs.Agreement.{Agrees, no_excuse};
-ghost use Rattle.x64_table.specs.Encoding.{encoding};
+ghost use Rattle.x64_table.specs.Encoding.{encoding, is_row};
 ghost use Rattle.elf_image.specs.Layout.{image_of};
-ghost use Rattle.oxml_driver.specs.Printer.{joined, printer_of, prints, exit_with, write_loop, write_of, rows_of, bytes_of};
+ghost use Rattle.oxml_driver.specs.Printer.{joined, printer_of, prints, exit_with, ask_rows, answer_rows, rest_rows, write_loop, write_of, bytes_of};
 
 use oxml_base::{Items, Lit, NoMemory};
 use std::alloc::Global;
-use x64_table::{ArithOp, Code, Cond, Instr, Reg, form_of};
+use x64_encode::encode;
+use x64_table::{ArithOp, Code, Cond, Instr, Reg};
 
 /// A law: whatever the kernel answers, and after every number of steps, the program that is made for
 /// some texts does what it means. It writes the texts on channel 1, goes on with the rest behind a short
@@ -50,14 +52,16 @@ fn register(number: u8) -> Reg
 }
 
 fn add(bytes: &mut Vec<u8>, row: &Instr) -> Result<(), NoMemory>
+    requires { is_row row.now ≡ true }
     ensures { OnOk result (bytes.new.items ≡ bytes.old.items ++ encoding row.now) }
 {
-    let (form, length) = form_of(row);
+    let (form, length) = encode(*row);
     bytes.extend_from_slice(&form[..length as usize])?;
     Ok(())
 }
 
 fn add_all(bytes: &mut Vec<u8>, rows: &[Instr]) -> Result<(), NoMemory>
+    requires { IsTrue (list_all is_row rows.now) }
     ensures { OnOk result (bytes.new.items ≡ bytes.old.items ++ flat_map encoding rows.now) }
 {
     for row in rows {
@@ -100,21 +104,45 @@ fn add_write(bytes: &mut Vec<u8>, place: u64, length: u64) -> Result<(), NoMemor
 fn add_write_loop(bytes: &mut Vec<u8>, place: u64, length: u64) -> Result<(), NoMemory>
     ensures { OnOk result (bytes.new.items ≡ bytes.old.items ++ flat_map encoding (write_loop place length)) }
 {
-    let (rax, rdx, rsi, rdi) = (register(0), register(2), register(6), register(7));
+    add_ask(bytes, place, length)?;
+    add_answer(bytes)?;
+    add_rest(bytes)?;
+    add_exit(bytes, 104)
+}
+
+/// The kernel is asked to write `length` bytes from `place` on.
+fn add_ask(bytes: &mut Vec<u8>, place: u64, length: u64) -> Result<(), NoMemory>
+    ensures { OnOk result (bytes.new.items ≡ bytes.old.items ++ flat_map encoding (ask_rows place length)) }
+{
     let rows = [
         Instr::MovImm {
-            dst: rsi,
+            dst: register(6),
             imm: place,
         },
         Instr::MovImm {
-            dst: rdx,
+            dst: register(2),
             imm: length,
         },
         // the call's number and the channel
-        Instr::MovImm { dst: rax, imm: 1 },
-        Instr::MovImm { dst: rdi, imm: 1 },
+        Instr::MovImm {
+            dst: register(0),
+            imm: 1,
+        },
+        Instr::MovImm {
+            dst: register(7),
+            imm: 1,
+        },
         Instr::Syscall,
-        // -4, EINTR: again from the call's number on
+    ];
+    add_all(bytes, &rows)
+}
+
+/// What the answer in rax leads to: the write again, from the call's number on, or the exit.
+fn add_answer(bytes: &mut Vec<u8>) -> Result<(), NoMemory>
+    ensures { OnOk result (bytes.new.items ≡ bytes.old.items ++ flat_map encoding answer_rows) }
+{
+    let rax = register(0);
+    let rows = [
         Instr::ArithImm {
             op: ArithOp::Cmp,
             dst: rax,
@@ -124,7 +152,6 @@ fn add_write_loop(bytes: &mut Vec<u8>, place: u64, length: u64) -> Result<(), No
             cond: Cond::E,
             rel: -35,
         },
-        // nothing, or more than was asked for, as every negative number without sign is
         Instr::Test { a: rax, b: rax },
         Instr::JumpIf {
             cond: Cond::E,
@@ -133,16 +160,25 @@ fn add_write_loop(bytes: &mut Vec<u8>, place: u64, length: u64) -> Result<(), No
         Instr::Arith {
             op: ArithOp::Cmp,
             dst: rax,
-            src: rdx,
+            src: register(2),
         },
         Instr::JumpIf {
             cond: Cond::A,
             rel: 17,
         },
-        // the rest, if there is one, from the call's number on
+    ];
+    add_all(bytes, &rows)
+}
+
+/// The rest, if there is one, from the call's number on; else past the exit.
+fn add_rest(bytes: &mut Vec<u8>) -> Result<(), NoMemory>
+    ensures { OnOk result (bytes.new.items ≡ bytes.old.items ++ flat_map encoding rest_rows) }
+{
+    let (rax, rdx) = (register(0), register(2));
+    let rows = [
         Instr::Arith {
             op: ArithOp::Add,
-            dst: rsi,
+            dst: register(6),
             src: rax,
         },
         Instr::Arith {
@@ -154,9 +190,7 @@ fn add_write_loop(bytes: &mut Vec<u8>, place: u64, length: u64) -> Result<(), No
             cond: Cond::NE,
             rel: -65,
         },
-        // past the exit
         Instr::Jump { rel: 22 },
     ];
-    add_all(bytes, &rows)?;
-    add_exit(bytes, 104)
+    add_all(bytes, &rows)
 }
