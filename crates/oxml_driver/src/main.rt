@@ -6,6 +6,8 @@ mod compile;
 mod lines;
 mod printer;
 mod source;
+#[cfg(test)]
+mod tests;
 mod words;
 
 use command::{oxml, want_of_memory};
