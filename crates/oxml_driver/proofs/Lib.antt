@@ -1,4 +1,6 @@
 mod CommandLemmas
+mod CompileLemmas
+mod DecidedLemmas
 mod LineLemmas
 mod PrinterAnswers
 mod PrinterCode

@@ -10,7 +10,7 @@ use Rattle.elf_image.specs.Layout.{image_of}
 use Rattle.elf_image.specs.Load.{loaded}
 use Rattle.oxml_driver.specs.declared.compile.CompileErr.{CompileErr}
 use Rattle.oxml_driver.specs.declared.compile.CompileErr.TheVariants.{Refused, Limit, NoMemory}
-use Rattle.oxml_driver.specs.Printer.{prints}
+use Rattle.oxml_driver.specs.Printer.{prints, printer_of}
 use Rattle.oxml_driver.specs.Source.{Prints}
 
 -- the most bytes of a source
@@ -33,6 +33,13 @@ pub record IsPrinter (text : List ℕ) (sizes : Sizes) (bytes : List ℕ) : Type
   pub code : Code
   pub loads : loaded bytes ≡ Ok (image_of code sizes)
   pub agrees : Agrees (prints (text ∷ [])) no_excuse (image_of code sizes)
+
+-- the code that writes the text, which fits an executable
+pub record IsPrinterCode (text : List ℕ) (code : Code) : Type 0 where
+  pub is_printer : code ≡ printer_of (text ∷ [])
+  pub least : 1 ≤ length code.bytes
+  pub most : length code.bytes ≤ 1_060_004_096
+  pub literals : length code.literals ≤ 1_060_004_096
 
 -- the source prints a text, and the bytes are an executable that does just that
 pub record Compiles (source : List ℕ) (sizes : Sizes) (bytes : List ℕ) : Type 0 where

@@ -1,9 +1,10 @@
 -- What the command comes to: each status has its cause, and says what stands behind it.
-use Rattle.std.specs.Prelude.{◌≡◌, ◌⊎◌, ℕ, true, Some, List, [], ◌∷◌, ◌++◌, length, ◌≤◌}
+use Rattle.std.specs.Prelude.{◌≡◌, ◌⊎◌, ℕ, true, Some, List, [], ◌∷◌, ◌++◌, length, ◌≤◌, ◌<◌}
 use Rattle.oxml_base.specs.declared.outside.ShelfCall.TheVariants.{Load, Save}
 use Rattle.oxml_base.specs.Outside.{ShelfView, SinkView, Rose, SameHeld, SameBut, SameFaults, ShelfFails, HoldsMore, Gains, GainsPart, Puts}
 use Rattle.oxml_driver.specs.Build.{Compiles, PrintsNothing, default_sizes, left_out, most_bytes}
 use Rattle.oxml_driver.specs.Lines.{usage_line, write_fault_line, no_memory_line, read_fault_line, bytes_limit_line, refusal_line}
+use Rattle.oxml_driver.specs.Source.{Prints}
 use Rattle.oxml_driver.specs.Words.{IsBuild}
 
 -- what is seen of the outside
@@ -126,7 +127,24 @@ pub data Answers (words : List (List ℕ)) (old new : World) (status : ℕ) : Ty
   limit : status ≡ 5 → IsLimit words old new → Answers words old new status
   no_memory : status ≡ 6 → IsNoMemory old new → Answers words old new status
 
+-- ---- which answer comes where nothing fails
+
 -- no call of the outside failed
 pub record NothingFailed (old new : World) : Type 0 where
-  pub shelf : new.shelf.faults ≡ old.shelf.faults
-  pub err : new.err.faults ≡ old.err.faults
+  pub shelf : Rose old.shelf.faults new.shelf.faults → ⊥
+  pub err : Rose old.err.faults new.err.faults → ⊥
+
+-- the words are a build, and the shelf tells the source that they name
+pub record TellsSource (words : List (List ℕ)) (world : World) (source : List ℕ) : Type 0 where
+  pub file : List ℕ
+  pub out_name : List ℕ
+  pub words_are : IsBuild words file out_name
+  pub tells : world.shelf.tells ≡ true
+  pub holds : world.shelf.held file ≡ Some source
+
+-- the words and the source decide the answer, unless memory is wanting
+pub record IsDecided (words : List (List ℕ)) (old : World) (status : ℕ) : Type 0 where
+  pub accepted : (source text : List ℕ) → TellsSource words old source → length source ≤ most_bytes → Prints source text → (status ≡ 0) ⊎ (status ≡ 6)
+  pub refused : (source : List ℕ) → TellsSource words old source → length source ≤ most_bytes → PrintsNothing source → (status ≡ 1) ⊎ (status ≡ 6)
+  pub misread : IsMisread words → (status ≡ 2) ⊎ (status ≡ 6)
+  pub too_long : (source : List ℕ) → TellsSource words old source → most_bytes < length source → (status ≡ 5) ⊎ (status ≡ 6)

@@ -1,8 +1,8 @@
 //! The command as a whole.
 ghost use Rattle.std.specs.Prelude.{◌≡◌, ◌≤◌, ℕ, List, true, Some, IfOk, length, string_bytes};
-ghost use Rattle.oxml_base.specs.Outside.{GainsPart};
+ghost use Rattle.oxml_base.specs.Outside.{GainsPart, SinkView};
 ghost use Rattle.oxml_driver.specs.Build.{most_bytes};
-ghost use Rattle.oxml_driver.specs.Command.{Answers};
+ghost use Rattle.oxml_driver.specs.Command.{Answers, IsDecided, NothingFailed};
 ghost use Rattle.oxml_driver.specs.Lines.{no_memory_line, write_fault_line};
 ghost use Rattle.oxml_driver.specs.Said.{AnswersBuild, Said, SaidUnread};
 ghost use Rattle.oxml_driver.specs.Words.{texts_of};
@@ -36,9 +36,25 @@ pub fn oxml<S: Shelf, O: Sink, E: Sink>(
     out: &mut O,
     err: &mut E,
 ) -> u8
-    ensures { Answers (texts_of words.now)
+    // Each status has its cause, and says what stands behind it.
+    ensures answers { Answers (texts_of words.now)
         (record { shelf = S.shelf shelf.old; out = O.sink out.old; err = E.sink err.old })
         (record { shelf = S.shelf shelf.new; out = O.sink out.new; err = E.sink err.new }) result }
+    // Where nothing of the outside fails, the words and the source decide the status, or it is 6.
+    ensures decided { NothingFailed
+        (record { shelf = S.shelf shelf.old; out = O.sink out.old; err = E.sink err.old })
+        (record { shelf = S.shelf shelf.new; out = O.sink out.new; err = E.sink err.new })
+        → IsDecided (texts_of words.now)
+        (record { shelf = S.shelf shelf.old; out = O.sink out.old; err = E.sink err.old }) result }
+{
+    answer(alloc, words, shelf, err)
+}
+
+/// Answers the words. Nothing is put on `out`, whatever that is.
+fn answer<S: Shelf, E: Sink>(alloc: Global, words: &[&str], shelf: &mut S, err: &mut E) -> u8
+    ensures { (out : SinkView) → Answers (texts_of words.now)
+        (record { shelf = S.shelf shelf.old; out = out; err = E.sink err.old })
+        (record { shelf = S.shelf shelf.new; out = out; err = E.sink err.new }) result }
 {
     match Build::read(words) {
         None => say(err, 2, USAGE),
@@ -133,7 +149,7 @@ fn say_unwritten<E: Sink>(err: &mut E) -> u8
 }
 
 /// Tries the last line of a call that answers 6.
-fn want_of_memory<E: Sink>(err: &mut E) -> u8
+pub fn want_of_memory<E: Sink>(err: &mut E) -> u8
     ensures status { result ≡ 6 }
     ensures err { GainsPart (E.sink err.old) (E.sink err.new) no_memory_line }
 {

@@ -1,11 +1,13 @@
 ghost use Rattle.std.specs.Prelude.{◌≤◌, length, IfOk, IfErr};
-ghost use Rattle.oxml_driver.specs.Build.{AreSizes, Compiles, IsPrinter, NotCompiled, most_bytes};
+ghost use Rattle.oxml_driver.specs.Build.{AreSizes, Compiles, IsPrinter, IsPrinterCode, NotCompiled, most_bytes};
 
+use crate::printer::printer;
 use crate::source::printed_text;
-use oxml_base::{Limit, NoMemory, Refusal, Rule, Span};
+use elf_image::write_image;
+use oxml_base::{Items, Limit, Lit, NoMemory, Refusal, Rule, Span};
 use std::alloc::Global;
 use thiserror::Error;
-use x64_table::Sizes;
+use x64_table::{Code, Sizes};
 
 /// The most bytes of a source.
 pub const MOST_BYTES: u64 = 1_048_576;
@@ -52,5 +54,17 @@ fn build_printer(alloc: Global, text: Vec<u8>, sizes: Sizes) -> Result<Vec<u8>, 
     requires short { length text.items ≤ most_bytes }
     ensures { IfOk result (λ image. IsPrinter text.items sizes image.items) }
 {
-    Err(NoMemory)
+    let code = print_code(alloc, text)?;
+    write_image(alloc, &code, sizes)
+}
+
+/// The code that writes the text.
+fn print_code(alloc: Global, text: Vec<u8>) -> Result<Code, NoMemory>
+    requires { length text.items ≤ most_bytes }
+    ensures { IfOk result (λ code. IsPrinterCode text.items code) }
+{
+    let texts = [Lit {
+        bytes: Items::from_vec(text),
+    }];
+    printer(alloc, &texts)
 }

@@ -5,6 +5,11 @@
 ghost use Rattle.std.specs.Prelude.{◌≡◌, ◌++◌, ◌-◌, ℕ, List, Some, true, length, replicate};
 ghost use Rattle.x64_table.specs.Encoding.{encoding, decoded, is_row};
 
+#[cfg(test)]
+mod tables;
+#[cfg(test)]
+mod tests;
+
 use x64_table::{Instr, form_of};
 
 /// The bytes of an instruction with zeros behind them, and how many bytes it has, at most 10.
