@@ -1,14 +1,12 @@
 -- Program headers that are written one behind the other are read as they were written.
-use Rattle.std.proofs.Common.{◌≡◌, ℕ, zero, suc, ◌+◌, ◌-◌, ◌*◌, ◌≤◌, ◌<◌, ◌^◌, Bool, true, false, ◌&&◌, ◌==◌, not, nat_le, cond, List, [], ◌∷◌, ◌++◌, length, take, drop, map, find, flat_map, Option, Some, None, refl, sym, ap, subst, ◌∙◌, arith, length-append, length-drop, append_assoc}
+use Rattle.std.proofs.Common.{◌≡◌, ℕ, ◌+◌, ◌-◌, ◌≤◌, ◌<◌, ◌^◌, true, ◌==◌, not, nat_le, cond, List, [], ◌∷◌, ◌++◌, length, drop, map, find, flat_map, Some, None, refl, sym, ap, subst, ◌∙◌, arith, length-append, length-drop, append_assoc}
 use Rattle.std.proofs.lemmas.List.{drop-drop}
 use Rattle.std.specs.List.{range_with_len}
-use Rattle.std.specs.Int.{w32, w64, to_le_bytes, from_le_bytes}
 use Rattle.std.proofs.lemmas.Bool.Decides.{nat_tests}
 use Rattle.std.proofs.lemmas.Nat.{from_le_bytes-to_le_bytes_4, from_le_bytes-to_le_bytes_8}
-use Rattle.x64_table.specs.declared.image.Segment.{Segment}
 use Rattle.elf_image.specs.declared.header.ProgramHeader.{ProgramHeader}
-use Rattle.elf_image.specs.Fields.{word, xword, header_at, header_place, read_header, program_header}
-use Rattle.elf_image.specs.Load.{end_of, end_before, is_in_file, has_flags, has_room, is_behind, is_good_header, is_good, segment_by, segment_at}
+use Rattle.elf_image.specs.Fields.{header_at, header_place, read_header, program_header}
+use Rattle.elf_image.specs.Load.{end_of, end_before, is_in_file, has_flags, has_room, is_good_header, is_good, segment_by, segment_at}
 use Rattle.elf_image.proofs.Reading.{and_true, test_le, not_true, end_before-next}
 
 -- each number of the header fits its field

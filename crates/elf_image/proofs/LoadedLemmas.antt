@@ -1,11 +1,10 @@
 -- What a file loads to, by the tests that it passes.
-use Rattle.std.proofs.Common.{◌≡◌, ℕ, ◌≤◌, ◌<◌, Bool, true, false, not, cond, nat_lt, List, length, Option, Some, None, Result, Ok, Err, refl, sym, ap, ◌∙◌, arith}
+use Rattle.std.proofs.Common.{◌≡◌, ℕ, ◌≤◌, ◌<◌, Bool, true, false, cond, nat_lt, List, length, Some, None, Ok, Err, sym, ap, ◌∙◌, arith}
 use Rattle.std.specs.List.{list_any}
 use Rattle.std.proofs.lemmas.Bool.Decides.{nat_tests}
 use Rattle.x64_table.specs.declared.image.Image.{Image}
 use Rattle.x64_table.specs.declared.image.Segment.{Segment}
 use Rattle.elf_image.specs.Fields.{xword_at}
-use Rattle.elf_image.specs.declared.error.ImageErr.{ImageErr}
 use Rattle.elf_image.specs.declared.error.ImageErr.TheVariants.{Short, Magic, Kind, Segment as RefusedSegment, Entry}
 use Rattle.elf_image.specs.Load.{is_elf, is_kind, refused_segment, image_at, can_run, entered, loaded_unless, loaded}
 use Rattle.elf_image.proofs.Reading.{not_true, not_false}

@@ -1,16 +1,15 @@
 -- The file that is written has the segments of the memory map, and loads to them.
-use Rattle.std.proofs.Common.{◌≡◌, ℕ, ◌+◌, ◌-◌, ◌*◌, ◌/◌, ◌≤◌, ◌<◌, ◌^◌, Bool, true, false, ◌||◌, ◌==◌, cond, List, [], ◌∷◌, ◌++◌, length, take, drop, map, replicate, Ok, refl, sym, ap, subst, ◌∙◌, arith, length-append}
+use Rattle.std.proofs.Common.{◌≡◌, ℕ, ◌+◌, ◌-◌, ◌*◌, ◌≤◌, ◌^◌, Bool, true, false, ◌||◌, ◌==◌, cond, List, [], ◌∷◌, ◌++◌, length, map, replicate, Ok, refl, ap, ◌∙◌, arith, length-append}
 use Rattle.std.specs.List.{list_any}
 use Rattle.std.proofs.lemmas.List.{length-replicate}
 use Rattle.x64_table.specs.declared.image.Code.{Code}
-use Rattle.x64_table.specs.declared.image.Image.{Image}
 use Rattle.x64_table.specs.declared.image.Segment.{Segment}
 use Rattle.x64_table.specs.declared.image.Sizes.{Sizes}
 use Rattle.elf_image.specs.declared.header.ProgramHeader.{ProgramHeader}
-use Rattle.elf_image.specs.Layout.{data_of, data_place, words_segment, segments_of, image_of, words_header, headers_of, file_with, file_of, IsWritable}
+use Rattle.elf_image.specs.Layout.{data_of, data_place, words_segment, segments_of, image_of, words_header, headers_of, file_of, IsWritable}
 use Rattle.elf_image.specs.Load.{end_of, is_good_header, segment_by, can_run, loaded}
 use Rattle.elf_image.proofs.LoadedLemmas.{image_with, lt_true}
-use Rattle.elf_image.proofs.Laid.{AreLaid, IsFitting, IsGoodHeader, is_good_header-true}
+use Rattle.elf_image.proofs.Laid.{AreLaid, IsFitting, is_good_header-true}
 use Rattle.elf_image.proofs.Parts.{code_stands, data_stands, length-file}
 use Rattle.elf_image.proofs.Written.{loaded-file_with}
 

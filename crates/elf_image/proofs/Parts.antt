@@ -1,12 +1,12 @@
 -- Where the parts of a file that was written stand in it, and what its header says.
-use Rattle.std.proofs.Common.{◌≡◌, ℕ, ◌+◌, ◌-◌, ◌*◌, ◌≤◌, ◌<◌, ◌^◌, true, ◌&&◌, nat_le, List, [], ◌∷◌, ◌++◌, length, take, drop, flat_map, replicate, refl, sym, ap, subst, ◌∙◌, arith, length-append, append_assoc}
+use Rattle.std.proofs.Common.{◌≡◌, ℕ, ◌+◌, ◌-◌, ◌*◌, ◌≤◌, true, ◌&&◌, nat_le, List, [], ◌∷◌, ◌++◌, length, take, drop, flat_map, replicate, refl, sym, ap, subst, ◌∙◌, arith, length-append, append_assoc}
 use Rattle.std.proofs.lemmas.List.{drop_at, length-replicate, take_all}
 use Rattle.std.proofs.lemmas.Nat.{from_le_bytes-to_le_bytes_2}
 use Rattle.std.proofs.Math.Seq.{take-append_seam}
 use Rattle.elf_image.specs.declared.header.ProgramHeader.{ProgramHeader}
-use Rattle.elf_image.specs.Fields.{padded, program_header, xword_at, half_at}
+use Rattle.elf_image.specs.Fields.{padded, program_header, xword_at}
 use Rattle.elf_image.specs.Layout.{file_header, file_with}
-use Rattle.elf_image.specs.Load.{is_elf, has_ident, has_machine, has_tables, has_count, is_kind, header_count}
+use Rattle.elf_image.specs.Load.{is_elf, has_count, is_kind, header_count}
 use Rattle.elf_image.proofs.Reading.{and_true, test_le}
 
 -- ---- the file header

@@ -1,10 +1,10 @@
 -- Facts about the program headers of a file, in the form in which the loader meets them.
-use Rattle.std.proofs.Common.{◌≡◌, ◌≢◌, ℕ, zero, suc, ◌+◌, ◌-◌, ◌*◌, ◌≤◌, ◌<◌, ◌^◌, Bool, true, false, ◌&&◌, not, nat_le, cond, List, ◌∷◌, ◌++◌, [], append_assoc, add-one, length, map, find, Option, Some, None, refl, sym, ap, subst, ◌∙◌, arith}
+use Rattle.std.proofs.Common.{◌≡◌, ℕ, suc, ◌+◌, ◌-◌, ◌≤◌, ◌<◌, ◌^◌, Bool, true, false, ◌&&◌, not, nat_le, cond, List, ◌∷◌, ◌++◌, [], append_assoc, add-one, length, map, find, Some, refl, sym, ap, subst, ◌∙◌, arith}
 use Rattle.std.proofs.lemmas.Bool.Decides.{nat_tests}
 use Rattle.std.specs.List.{range_with_len}
 use Rattle.elf_image.specs.declared.header.ProgramHeader.{ProgramHeader}
 use Rattle.elf_image.specs.Fields.{header_place, header_at}
-use Rattle.elf_image.specs.Load.{end_of, end_before, is_in_file, has_flags, has_room, is_behind, is_good_header, is_good, segment_at}
+use Rattle.elf_image.specs.Load.{end_of, end_before, is_in_file, has_flags, has_room, is_behind, is_good_header, is_good}
 
 pub and_false : (a b : Bool) → b ≡ false → (a && b) ≡ false
 and_false true b e = e

@@ -1,13 +1,12 @@
 -- The segments of a file whose program headers pass their tests are in rising order, each with its limits.
-use Rattle.std.proofs.Common.{◌≡◌, ◌≢◌, ℕ, zero, suc, ◌+◌, ◌-◌, ◌*◌, ◌%◌, ◌≤◌, ◌<◌, ◌^◌, Bool, true, false, ◌&&◌, ◌||◌, ◌==◌, not, nat_le, nat_lt, cond, List, [], ◌∷◌, length, get_or, take, drop, map, find, Option, Some, None, refl, sym, ap, subst, ◌∙◌, arith, length-take}
+use Rattle.std.proofs.Common.{◌≡◌, ℕ, zero, suc, ◌+◌, ◌%◌, ◌≤◌, ◌<◌, ◌^◌, Bool, true, false, ◌||◌, ◌==◌, not, nat_le, nat_lt, cond, List, [], ◌∷◌, length, drop, map, find, Option, Some, None, refl, subst, arith, length-take}
 use Rattle.std.specs.List.{range_with_len, list_any, Any}
 use Rattle.std.proofs.lemmas.Bool.Decides.{nat_tests}
 use Rattle.std.proofs.lemmas.List.FromFn.{length-map-range_with_len}
-use Rattle.x64_table.specs.declared.image.Image.{Image}
 use Rattle.x64_table.specs.declared.image.Segment.{Segment}
 use Rattle.elf_image.specs.declared.header.ProgramHeader.{ProgramHeader}
-use Rattle.elf_image.specs.Fields.{header_at, header_place, half_at, xword_at}
-use Rattle.elf_image.specs.Load.{has_ident, has_machine, is_kind, end_of, end_before, is_in_file, has_flags, has_room, is_behind, is_good_header, is_good, segment_by, segment_at, can_run, header_count, refused_segment, image_at}
+use Rattle.elf_image.specs.Fields.{header_at, half_at, xword_at}
+use Rattle.elf_image.specs.Load.{has_ident, has_machine, is_kind, end_of, end_before, is_good_header, is_good, segment_by, segment_at, can_run, header_count, refused_segment, image_at}
 use Rattle.elf_image.specs.Loadable.{IsSegment, AreRising, CanRun, IsLoadable}
 use Rattle.elf_image.proofs.Reading.{and_left, and_right, le_test, flags_tested, room_tested, behind_tested, header_tested, end_before-next}
 

@@ -1,5 +1,5 @@
 -- The fields of an ELF-64 file. Numbers stand with their low byte first (ELF-64 object file format, "Data representation").
-use Rattle.std.specs.Prelude.{ℕ, ◌+◌, ◌-◌, ◌*◌, Bool, ◌==◌, List, [], ◌∷◌, ◌++◌, length, drop, replicate, flat_map}
+use Rattle.std.specs.Prelude.{ℕ, ◌+◌, ◌-◌, ◌*◌, List, [], ◌∷◌, ◌++◌, length, drop, replicate, flat_map}
 use Rattle.std.specs.Int.{w16, w32, w64, to_le_bytes, from_le_bytes}
 use Rattle.elf_image.specs.declared.header.ProgramHeader.{ProgramHeader}
 

@@ -1,5 +1,5 @@
 -- How an executable file is loaded, after the ELF-64 object file format, "File header" and "Program header table": the first test that fails, or else the image.
-use Rattle.std.specs.Prelude.{◌≡◌, ℕ, zero, suc, ◌+◌, ◌*◌, ◌^◌, ◌%◌, Bool, true, false, not, ◌&&◌, ◌==◌, nat_lt, nat_le, nat_eq, if◌then◌else◌, List, [], ◌∷◌, length, take, drop, map, find, slice_index, Option, Some, None, Result, Ok, Err}
+use Rattle.std.specs.Prelude.{◌≡◌, ℕ, zero, suc, ◌+◌, ◌^◌, ◌%◌, Bool, true, false, not, ◌&&◌, ◌==◌, nat_lt, nat_le, nat_eq, if◌then◌else◌, List, [], ◌∷◌, length, take, drop, map, find, slice_index, Option, Some, None, Result, Ok, Err}
 use Rattle.std.specs.List.{range_with_len, list_any, starts_with}
 use Rattle.x64_table.specs.declared.image.Image.{Image}
 use Rattle.x64_table.specs.declared.image.Segment.{Segment}

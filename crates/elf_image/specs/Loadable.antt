@@ -1,5 +1,5 @@
 -- What each loaded image has.
-use Rattle.std.specs.Prelude.{◌≡◌, ℕ, ◌+◌, ◌^◌, ◌%◌, ◌≤◌, ◌<◌, List, [], ◌∷◌, length, Any}
+use Rattle.std.specs.Prelude.{◌≡◌, ℕ, ◌+◌, ◌^◌, ◌≤◌, ◌<◌, List, [], ◌∷◌, length, Any}
 use Rattle.x64_table.specs.declared.image.Image.{Image}
 use Rattle.x64_table.specs.declared.image.Segment.{Segment}
 

@@ -72,14 +72,27 @@ const PROGRAM_HEADERS: [u8; 280] = [
 #[test]
 fn writes_each_byte(rt: HostRuntime) -> Result<(), Fail> {
     let file = small_file(rt.alloc(), SIZES)?;
+    let (headers, code, data) = parts_of(file.as_slice()).ok_or("short")?;
     assert_eq!(rt; file.len(), 0x2008);
-    assert_eq!(rt; &file[..64], HEADER.as_slice());
-    assert_eq!(rt; &file[64..344], PROGRAM_HEADERS.as_slice());
-    assert!(rt; file[344..0x1000].iter().all(|byte| *byte == 0));
-    assert_eq!(rt; &file[0x1000..0x1002], [0x0f, 0x05].as_slice());
-    assert!(rt; file[0x1002..0x2000].iter().all(|byte| *byte == 0));
-    assert_eq!(rt; &file[0x2000..], b"hi\n\0\0\0\0\0".as_slice());
+    let mut rest = headers.iter();
+    for want in HEADER.iter().chain(PROGRAM_HEADERS.iter()) {
+        assert_eq!(rt; rest.next(), Some(want));
+    }
+    assert!(rt; rest.all(|byte| *byte == 0));
+    let mut rest = code.iter();
+    assert_eq!(rt; rest.next(), Some(&0x0f));
+    assert_eq!(rt; rest.next(), Some(&0x05));
+    assert!(rt; rest.all(|byte| *byte == 0));
+    assert_eq!(rt; data, b"hi\n\0\0\0\0\0".as_slice());
     Ok(())
+}
+
+/// The headers, the code and the data of a file, each with the zeros behind it.
+fn parts_of(file: &[u8]) -> Option<(&[u8], &[u8], &[u8])> {
+    let headers = file.get(..0x1000)?;
+    let code = file.get(0x1000..0x2000)?;
+    let data = file.get(0x2000..)?;
+    Some((headers, code, data))
 }
 
 /// One changed byte, and what the loader then answers.

@@ -1,4 +1,4 @@
-use Rattle.std.proofs.Common.{sym, refl, ap, ◌∙◌, arith}
+use Rattle.std.proofs.Common.{refl, ap, ◌∙◌, arith}
 use Rattle.elf_image.specs.Load.{segment_by}
 use Rattle.elf_image.proofs.Reading.{is_good-bad_header, is_good-good_header}
 use Rattle.elf_image.proofs.loader.read_segment.Goals as goal

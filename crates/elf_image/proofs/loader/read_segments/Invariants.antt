@@ -1,4 +1,4 @@
-use Rattle.std.proofs.Common.{◌≡◌, ◌++◌, ◌+◌, ◌-◌, ◌^◌, ◌≤◌, not, map, find}
+use Rattle.std.proofs.Common.{◌≡◌, ◌++◌, ◌-◌, not, map, find}
 use Rattle.std.specs.List.{range_with_len}
 use Rattle.elf_image.specs.Load.{is_good, segment_at, end_before, header_count, refused_segment, image_at}
 use Rattle.elf_image.proofs.loader.read_segments.Given as goal

@@ -1,6 +1,5 @@
-use Rattle.std.proofs.Common.{◌≡◌, ℕ, List, length, ap, sym, ◌∙◌}
-use Rattle.elf_image.specs.declared.header.ProgramHeader.{ProgramHeader}
-use Rattle.elf_image.specs.Layout.{file_of, file_with, data_of, data_place}
+use Rattle.std.proofs.Common.{◌≡◌, ap, sym, ◌∙◌}
+use Rattle.elf_image.specs.Layout.{file_of}
 use Rattle.elf_image.specs.Load.{loaded}
 use Rattle.elf_image.proofs.Memory.{loaded-file_of}
 use Rattle.elf_image.proofs.Writing.{file_with-parts, file_with-same}
