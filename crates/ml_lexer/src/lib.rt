@@ -1,0 +1,10 @@
+//! The lexer: the bytes of a source as tokens (OCaml manual, lexical conventions).
+#![tactic(auto)]
+
+mod errors;
+pub mod sign;
+mod token;
+pub mod word;
+
+pub use errors::LexErr;
+pub use token::{Token, TokenKind};
