@@ -1,7 +1,11 @@
 //! The lexer: the bytes of a source as tokens (OCaml manual, lexical conventions).
 #![tactic(auto)]
 
+mod bytes;
+mod comments;
 mod errors;
+mod literals;
+mod pieces;
 pub mod sign;
 mod token;
 pub mod word;
