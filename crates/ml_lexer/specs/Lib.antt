@@ -1,3 +1,5 @@
+pub mod Answers
+pub mod Bounds
 pub mod Bytes
 pub mod Literals
 pub mod Numbers

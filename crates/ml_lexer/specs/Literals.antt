@@ -1,6 +1,6 @@
 -- Escapes, characters and the parts of texts and comments.
-use Rattle.std.specs.Prelude.{ℕ, zero, suc, ◌+◌, Bool, true, false, ◌==◌, List, [], ◌∷◌, drop, codes, Option, Some, None, if◌then◌else◌, nat_le}
-use Rattle.std.specs.Option.{option_and_then, option_map}
+use Rattle.std.specs.Prelude.{◌≡◌, ℕ, zero, suc, ◌+◌, Bool, true, false, ◌==◌, List, [], ◌∷◌, drop, codes, Option, Some, None, if◌then◌else◌, nat_le}
+use Rattle.std.specs.Option.{option_and_then}
 use Rattle.std.specs.Char.{is_ascii_digit}
 use Rattle.ml_lexer.specs.Bytes.{byte, is_one_of}
 use Rattle.ml_lexer.specs.Numbers.{with_digit}
@@ -71,15 +71,16 @@ in_text_by text at c =
 unfoldable pub in_text : List ℕ → ℕ → InText
 in_text text at = in_text_by text at (byte text at)
 
--- where a text literal in a comment ends: any byte may stand behind a backslash, as the flag says
-unfoldable pub text_width : Bool → List ℕ → Option ℕ
-text_width behind_backslash [] = None
-text_width true (c ∷ cs) = option_map suc (text_width false cs)
-text_width false (c ∷ cs) = if c == 34 then Some 1 else option_map suc (text_width (c == 92) cs)
+-- where a text literal in a comment ends, if it does; any byte may stand behind a backslash, and the
+-- flag says that one was just passed
+unfoldable pub text_end : Bool → ℕ → List ℕ → Option ℕ
+text_end behind_backslash at [] = None
+text_end true at (c ∷ cs) = text_end false (at + 1) cs
+text_end false at (c ∷ cs) = if c == 34 then Some (at + 1) else text_end (c == 92) (at + 1) cs
 
 abbrev pub passes_text : ℕ → Option ℕ → InComment
 passes_text at None = Passes (at + 1)
-passes_text at (Some width) = Passes (at + 1 + width)
+passes_text at (Some end) = Passes end
 
 abbrev pub passes_character : ℕ → Coded → InComment
 passes_character at Absent = Passes (at + 1)
@@ -91,7 +92,7 @@ passes_character at (Stands b end) = Passes end
 abbrev pub in_comment_by : List ℕ → ℕ → ℕ → InComment
 in_comment_by text at c =
     if c == 256 then Over
-    else (if c == 34 then passes_text at (text_width false (drop (at + 1) text))
+    else (if c == 34 then passes_text at (text_end false (at + 1) (drop (at + 1) text))
     else (if c == 39 then passes_character at (character text at)
     else (if c == 40 then (if byte text (at + 1) == 42 then Opens else Passes (at + 1))
     else (if c == 42 then (if byte text (at + 1) == 41 then Leaves else Passes (at + 1))
@@ -99,3 +100,8 @@ in_comment_by text at c =
 
 unfoldable pub in_comment : List ℕ → ℕ → InComment
 in_comment text at = in_comment_by text at (byte text at)
+
+-- no quote from here on begins a text literal of a comment
+abbrev pub HasNoText : List ℕ → Type 0
+HasNoText [] = Unit {0}
+HasNoText (c ∷ cs) = (c ≡ 34 → (at : ℕ) → text_end false at cs ≡ None) × HasNoText cs

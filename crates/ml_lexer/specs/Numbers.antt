@@ -21,10 +21,10 @@ digits base value (c ∷ cs) = option_and_then (λ v. digits base v cs) (with_ma
 unfoldable pub base_of : List ℕ → ℕ
 base_of run =
     if byte run 0 == 48 then
-      (if (byte run 1 == 120) || (byte run 1 == 88) then 16
-      else (if (byte run 1 == 111) || (byte run 1 == 79) then 8
-      else (if (byte run 1 == 98) || (byte run 1 == 66) then 2
-      else 10)))
+    (if (byte run 1 == 120) || (byte run 1 == 88) then 16
+    else (if (byte run 1 == 111) || (byte run 1 == 79) then 8
+    else (if (byte run 1 == 98) || (byte run 1 == 66) then 2
+    else 10)))
     else 10
 
 -- 63 bits as a number with a sign
@@ -47,3 +47,7 @@ number_in base after_minus run =
 -- the value of a number literal, if the run is one
 unfoldable pub number : Bool → List ℕ → Option ℤ
 number after_minus run = number_in (base_of run) after_minus run
+
+-- a value of at most 63 bits
+abbrev pub small : Option ℕ → Option ℕ
+small o = option_and_then (λ v. if nat_lt v (2 ^ 63) then Some v else None) o

@@ -74,13 +74,13 @@ name_to text at end = Plain (named (slice_range text at end) (place_in words (sl
 -- what a byte of a class begins: the longest token of its forms, a fault, a comment or a text
 abbrev pub look_by : Class → Bool → List ℕ → ℕ → Look
 look_by Blank after_minus text at = Space
-look_by SmallLetter after_minus text at = name_to text at (run_end Name text at)
-look_by CapitalLetter after_minus text at = Plain Upper (run_end Name text at)
-look_by Digit after_minus text at = number_to after_minus text at (run_end Number text at)
+look_by SmallLetter after_minus text at = name_to text at (run_end Name text (at + 1))
+look_by CapitalLetter after_minus text at = Plain Upper (run_end Name text (at + 1))
+look_by Digit after_minus text at = number_to after_minus text at (run_end Number text (at + 1))
 look_by Quote after_minus text at = quote_by text at (character text at)
 look_by DoubleQuote after_minus text at = OpensText
 look_by Bracket after_minus text at = if byte text (at + 1) == 42 then OpensComment else sign_to text at (at + 1)
-look_by Mark after_minus text at = sign_to text at (run_end Operator text at)
+look_by Mark after_minus text at = sign_to text at (run_end Operator text (at + 1))
 look_by Other after_minus text at = sign_to text at (if is_pair (byte text at) (byte text (at + 1)) then at + 2 else at + 1)
 
 unfoldable pub look : Bool → List ℕ → ℕ → Look

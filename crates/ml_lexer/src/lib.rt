@@ -4,11 +4,16 @@
 mod bytes;
 mod comments;
 mod errors;
+mod lexer;
 mod literals;
+mod numbers;
 mod pieces;
 pub mod sign;
 mod token;
 pub mod word;
+mod words;
 
 pub use errors::LexErr;
+pub use lexer::{MAX_TOKENS, lex};
+pub use literals::text_bytes;
 pub use token::{Token, TokenKind};
