@@ -24,6 +24,12 @@ CodedEndsWithin at end Absent = Unit {0}
 CodedEndsWithin at end Bad = at + 2 ≤ end
 CodedEndsWithin at end (Stands b next) = (b < 256) × IsPast (at + 1) end next
 
+-- the same of a literal whose quote stands at the place
+abbrev pub QuoteEndsWithin : ℕ → ℕ → Coded → Type 0
+QuoteEndsWithin at end Absent = Unit {0}
+QuoteEndsWithin at end Bad = at + 3 ≤ end
+QuoteEndsWithin at end (Stands b next) = (b < 256) × IsPast at end next
+
 abbrev pub InTextEndsWithin : ℕ → ℕ → InText → Type 0
 InTextEndsWithin at end Cut = Unit {0}
 InTextEndsWithin at end Closes = at < end

@@ -21,11 +21,15 @@ abbrev pub by_number : ℕ → Option ℕ → Coded
 by_number end None = Bad
 by_number end (Some value) = if nat_le value 255 then Stands value end else Bad
 
+-- a backslash, a quote of either kind or a space
+abbrev pub stands_for_itself : ℕ → Bool
+stands_for_itself c = is_one_of (92 ∷ 34 ∷ 39 ∷ 32 ∷ []) c
+
 -- the escape whose backslash stands at a place, by the byte behind the backslash
 abbrev pub escape_by : List ℕ → ℕ → ℕ → Coded
 escape_by text at c =
     if c == 256 then Absent
-    else (if is_one_of (92 ∷ 34 ∷ 39 ∷ 32 ∷ []) c then Stands c (at + 2)
+    else (if stands_for_itself c then Stands c (at + 2)
     else (if c == 110 then Stands 10 (at + 2)
     else (if c == 116 then Stands 9 (at + 2)
     else (if c == 98 then Stands 8 (at + 2)

@@ -1,6 +1,6 @@
 -- The tokens of a text: a division of it into blanks, comments and tokens (OCaml manual, lexical
 -- conventions).
-use Rattle.std.specs.Prelude.{◌≡◌, ℕ, zero, suc, ◌+◌, Bool, false, ◌==◌, ◌&&◌, not, nat_eq, List, [], ◌∷◌, take, Option, Some, None, ℤ, if◌then◌else◌, slice_range}
+use Rattle.std.specs.Prelude.{◌≡◌, ℕ, zero, suc, ◌+◌, ◌<◌, ◌≤◌, length, Bool, false, ◌==◌, ◌&&◌, not, nat_eq, List, [], ◌∷◌, take, Option, Some, None, ℤ, if◌then◌else◌, slice_range}
 use Rattle.std.specs.Cmp.Lexicographic.{pointwise}
 use Rattle.oxml_base.specs.declared.rule.Rule.{Rule}
 use Rattle.oxml_base.specs.declared.rule.Rule.TheVariants.{OutsideAlphabet, OpenComment, OpenText, BadEscape, BadNumber}
@@ -57,10 +57,14 @@ is_pair a b =
     else (if a == 58 then is_one_of (58 ∷ 61 ∷ 62 ∷ []) b
     else (if a == 46 then b == 46 else false))
 
--- a quote and a lower name, which is more than `_`
+-- a lower name, which is more than `_` (95)
+abbrev pub is_lower_name : List ℕ → Bool
+is_lower_name run = begins_lower (byte run 0) && not (pointwise nat_eq run (95 ∷ []))
+
+-- a quote and a lower name
 abbrev pub variable_to : List ℕ → ℕ → ℕ → Look
 variable_to text at end =
-    if begins_lower (byte text (at + 1)) && not (pointwise nat_eq (slice_range text (at + 1) end) (95 ∷ [])) then Plain TypeVar end
+    if is_lower_name (slice_range text (at + 1) end) then Plain TypeVar end
     else Fault (refusal OutsideAlphabet at (at + 1))
 
 abbrev pub quote_by : List ℕ → ℕ → Coded → Look
@@ -146,9 +150,20 @@ pub record StartsWith (text : List ℕ) (part : Span) (tokens : List Token) : Ty
   pub divides : Divides (take part.end text) false part.start tokens after_minus place
 
 -- at the token's span stands a text literal for these bytes
-abbrev pub IsLiteral : List ℕ → Token → List ℕ → Type 0
-IsLiteral text t bytes = TextFrom text (t.span.start + 1) bytes (ClosedAt t.span.end)
+pub record IsLiteral (text : List ℕ) (t : Token) (bytes : List ℕ) : Type 0 where
+  pub order : t.span.start + 1 ≤ t.span.end
+  pub within : t.span.end ≤ length text
+  pub literal : TextFrom text (t.span.start + 1) bytes (ClosedAt t.span.end)
 
--- a token of the kind Text is a literal of the text
+-- at the token's span stands a text literal
 abbrev pub IsTextToken : List ℕ → Token → Type 0
 IsTextToken text t = (bytes : List ℕ) × IsLiteral text t bytes
+
+-- if the token is one of the kind Text, a text literal stands there
+abbrev pub IsSound : List ℕ → Token → Type 0
+IsSound text t = t.kind ≡ Text → IsTextToken text t
+
+-- the tokens lie between two places in order, and none is empty
+abbrev pub AreInOrder : ℕ → List Token → ℕ → Type 0
+AreInOrder from [] to = from ≤ to
+AreInOrder from (t ∷ ts) to = (from ≤ t.span.start) × (t.span.start < t.span.end) × AreInOrder t.span.end ts to

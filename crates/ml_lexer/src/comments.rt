@@ -2,8 +2,9 @@ ghost use Rattle.std.specs.Prelude.{◌≡◌, ◌≤◌, ◌<◌, ◌+◌, ℕ,
 ghost use Rattle.ml_lexer.specs.Bytes.{byte};
 ghost use Rattle.ml_lexer.specs.Literals.{text_end, passes_text, passes_character, character, in_comment, HasNoText};
 ghost use Rattle.ml_lexer.specs.Tokens.{CommentFrom};
-ghost use Rattle.ml_lexer.specs.Bounds.{CodedEndsWithin, InCommentEndsWithin, IsPast};
+ghost use Rattle.ml_lexer.specs.Bounds.{InCommentEndsWithin, IsPast};
 
+use crate::bytes::byte_at;
 use crate::literals::{Coded, character_at};
 
 /// What stands at a place in a comment.
@@ -17,6 +18,7 @@ pub enum InComment {
     Passes(usize),
 }
 
+#[tactic(auto, unfolding(crate::specs::Literals::text_end))]
 /// Where a text literal in a comment ends, from a place behind its first quote on.
 fn text_end(text: &[u8], at: usize) -> Option<usize>
     requires { at ≤ length text.now }
@@ -27,10 +29,13 @@ fn text_end(text: &[u8], at: usize) -> Option<usize>
     let mut here = at;
     while here < text.len() {
         let c = text[here];
-        if !behind_backslash && c == b'"' {
+        if behind_backslash {
+            behind_backslash = false;
+        } else if c == b'"' {
             return Some(here + 1);
+        } else {
+            behind_backslash = c == b'\\';
         }
-        behind_backslash = !behind_backslash && c == b'\\';
         here += 1;
     }
     None
@@ -69,6 +74,7 @@ fn passes_character(text: &[u8], at: usize) -> InComment
     }
 }
 
+#[tactic(auto, unfolding(crate::specs::Literals::in_comment, crate::specs::Bytes::byte))]
 /// What stands at a place in a comment. `texts_end` is false once a quote was seen that begins no
 /// text.
 fn in_comment_at(text: &[u8], at: usize, texts_end: &mut bool) -> InComment
@@ -85,9 +91,9 @@ fn in_comment_at(text: &[u8], at: usize, texts_end: &mut bool) -> InComment
         passes_text(text, at, texts_end)
     } else if c == b'\'' {
         passes_character(text, at)
-    } else if c == b'(' && text.get(at + 1) == Some(&b'*') {
+    } else if c == b'(' && byte_at(text, at + 1) == 42 {
         InComment::Opens
-    } else if c == b'*' && text.get(at + 1) == Some(&b')') {
+    } else if c == b'*' && byte_at(text, at + 1) == 41 {
         InComment::Leaves
     } else {
         InComment::Passes(at + 1)
@@ -103,7 +109,7 @@ pub fn comment_end(text: &[u8], at: usize) -> Option<usize>
     let mut inner: usize = 0;
     let mut here = at;
     let mut texts_end = true;
-    loop {
+    'comment: loop {
         match in_comment_at(text, here, &mut texts_end) {
             InComment::Over => return None,
             InComment::Opens => {

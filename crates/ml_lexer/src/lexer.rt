@@ -46,7 +46,7 @@ pub fn lex(alloc: Global, text: &[u8], part: Span) -> Result<Items<Token>, LexEr
     let mut tokens = Items::new(alloc);
     let mut at = part.start as usize;
     let mut after_minus = false;
-    while at < text.len() {
+    'pieces: while at < text.len() {
         match piece_at(text, at, after_minus) {
             Piece::Skips(next) => at = next,
             Piece::Faults(fault) => return Err(LexErr::Refused(fault)),

@@ -1,10 +1,11 @@
-ghost use Rattle.std.specs.Prelude.{◌≡◌, ◌≤◌, ◌<◌, ◌+◌, ℕ, List, Option, length, OnSome, IfSome, IfOk};
+ghost use Rattle.std.specs.Prelude.{◌≡◌, ◌≤◌, ◌<◌, ◌+◌, ◌*◌, ℕ, List, Option, length, OnSome, IfSome, IfOk};
 ghost use Rattle.ml_lexer.specs.Bytes.{byte};
 ghost use Rattle.ml_lexer.specs.Numbers.{with_digit};
-ghost use Rattle.ml_lexer.specs.Literals.{fixed, by_number, escape, quoted, character, in_escape, in_text};
+ghost use Rattle.ml_lexer.specs.Literals.{fixed, by_number, stands_for_itself, escape, quoted, character, in_escape, in_text};
 ghost use Rattle.ml_lexer.specs.Tokens.{TextFrom, IsTextToken, IsLiteral};
-ghost use Rattle.ml_lexer.specs.Bounds.{CodedEndsWithin, InTextEndsWithin, TextEndsWithin};
+ghost use Rattle.ml_lexer.specs.Bounds.{CodedEndsWithin, QuoteEndsWithin, InTextEndsWithin, TextEndsWithin};
 
+use crate::bytes::byte_at;
 use crate::token::Token;
 use oxml_base::{Items, Lit, NoMemory};
 use std::alloc::Global;
@@ -92,6 +93,13 @@ fn by_number(end: usize, value: Option<u32>) -> Coded
     }
 }
 
+/// Whether a backslash before a byte leaves it as it is.
+fn stands_for_itself(c: u8) -> bool
+    ensures { result ≡ stands_for_itself c }
+{
+    matches!(c, b'\\' | b'"' | b'\'' | b' ')
+}
+
 #[tactic(auto, unfolding(crate::specs::Literals::escape, crate::specs::Bytes::byte))]
 /// The escape whose backslash stands at a place.
 fn escape_at(text: &[u8], at: usize) -> Coded
@@ -102,7 +110,7 @@ fn escape_at(text: &[u8], at: usize) -> Coded
     let Some(&c) = text.get(at + 1) else {
         return Coded::Absent;
     };
-    if c == b'\\' || c == b'"' || c == b'\'' || c == b' ' {
+    if stands_for_itself(c) {
         Coded::Stands(c, at + 2)
     } else if c == b'n' {
         Coded::Stands(b'\n', at + 2)
@@ -124,21 +132,17 @@ fn escape_at(text: &[u8], at: usize) -> Coded
 }
 
 #[tactic(auto, unfolding(crate::specs::Bytes::byte))]
-/// A byte behind a quote, if the closing quote stands behind it.
+/// What stands behind the quote at a place, if the closing quote stands behind that.
 fn quoted(text: &[u8], at: usize, coded: Coded) -> Coded
-    requires { CodedEndsWithin at (length text.now + 1) coded }
+    requires { QuoteEndsWithin at (length text.now) coded }
     ensures quoted { result ≡ quoted text.now coded }
-    ensures within { CodedEndsWithin at (length text.now) result }
+    ensures within { QuoteEndsWithin at (length text.now) result }
 {
     match coded {
-        Coded::Stands(b, end) => {
-            if end < text.len() && text[end] == b'\'' {
-                Coded::Stands(b, end + 1)
-            } else {
-                Coded::Absent
-            }
-        }
-        other => other,
+        Coded::Absent => Coded::Absent,
+        Coded::Bad => Coded::Bad,
+        Coded::Stands(b, end) if byte_at(text, end) == 39 => Coded::Stands(b, end + 1),
+        Coded::Stands(_, _) => Coded::Absent,
     }
 }
 
@@ -147,17 +151,17 @@ fn quoted(text: &[u8], at: usize, coded: Coded) -> Coded
 pub fn character_at(text: &[u8], at: usize) -> Coded
     requires { at < length text.now }
     ensures character { result ≡ character text.now at }
-    ensures within { CodedEndsWithin (at + 1) (length text.now) result }
+    ensures within { QuoteEndsWithin at (length text.now) result }
 {
     let Some(&c) = text.get(at + 1) else {
         return Coded::Absent;
     };
     if c == b'\\' {
-        quoted(text, at + 1, escape_at(text, at + 1))
+        quoted(text, at, escape_at(text, at + 1))
     } else if c == b'\'' || c == b'\n' || c == b'\r' {
         Coded::Absent
     } else {
-        quoted(text, at + 1, Coded::Stands(c, at + 2))
+        quoted(text, at, Coded::Stands(c, at + 2))
     }
 }
 
@@ -197,7 +201,7 @@ pub fn text_end(text: &[u8], at: usize) -> TextEnd
     ensures within { TextEndsWithin at (length text.now) result }
 {
     let mut here = at;
-    loop {
+    'bytes: loop {
         match in_text_at(text, here) {
             InText::Cut => return TextEnd::Unclosed,
             InText::Closes => return TextEnd::ClosedAt(here + 1),
@@ -215,7 +219,7 @@ pub fn text_bytes(alloc: Global, text: &[u8], token: Token) -> Result<Lit, NoMem
 {
     let mut bytes = Items::new(alloc);
     let mut here = token.span.start as usize + 1;
-    loop {
+    'bytes: loop {
         match in_text_at(text, here) {
             InText::Byte(b, next) => {
                 bytes.push(b)?;

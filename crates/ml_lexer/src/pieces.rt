@@ -2,7 +2,7 @@ ghost use Rattle.std.specs.Prelude.{◌≡◌, ◌≤◌, ◌<◌, ◌+◌, ◌^
 ghost use Rattle.ml_lexer.specs.Bytes.{byte, run_end};
 ghost use Rattle.ml_lexer.specs.Literals.{character};
 ghost use Rattle.ml_lexer.specs.declared.bytes.Run.TheVariants.{Name};
-ghost use Rattle.ml_lexer.specs.Tokens.{refusal, named, sign_to, number_to, is_pair, variable_to, quote_by, name_to, look, Begins};
+ghost use Rattle.ml_lexer.specs.Tokens.{refusal, named, sign_to, number_to, is_pair, is_lower_name, variable_to, quote_by, name_to, look, Begins};
 ghost use Rattle.ml_lexer.specs.Bounds.{LookEndsWithin, PieceEndsWithin};
 ghost use Rattle.ml_lexer.specs.Words.{words, place_in};
 
@@ -101,6 +101,17 @@ fn is_pair(first: u16, second: u16) -> bool
     }
 }
 
+#[tactic(auto, unfolding(crate::specs::Bytes::byte))]
+/// Whether a run is a lower name, which is more than `_`.
+fn is_lower_name(run: &[u8]) -> bool
+    ensures { result ≡ is_lower_name run.now }
+{
+    let Some(&first) = run.first() else {
+        return false;
+    };
+    begins_lower(first) && !(run == b"_".as_slice())
+}
+
 /// The type variable whose quote stands at a place; a fault where no name stands behind it.
 fn variable_at(text: &[u8], at: usize) -> Look
     requires place { at < length text.now }
@@ -109,8 +120,7 @@ fn variable_at(text: &[u8], at: usize) -> Look
     ensures within { LookEndsWithin at (length text.now) result }
 {
     let end = run_end(Run::Name, text, at + 1);
-    let name = &text[at + 1..end];
-    if at + 1 < text.len() && begins_lower(text[at + 1]) && name != b"_".as_slice() {
+    if is_lower_name(&text[at + 1..end]) {
         Look::Plain(TokenKind::TypeVar, end)
     } else {
         Look::Fault(refusal(Rule::OutsideAlphabet, at, at + 1))
@@ -131,6 +141,7 @@ fn quote_at(text: &[u8], at: usize) -> Look
     }
 }
 
+#[tactic(auto, unfolding(crate::specs::Tokens::look))]
 /// What a place of a text begins.
 fn look_at(text: &[u8], at: usize, after_minus: bool) -> Look
     requires place { at < length text.now }
