@@ -25,22 +25,31 @@ by_number end (Some value) = if nat_le value 255 then Stands value end else Bad
 abbrev pub stands_for_itself : ℕ → Bool
 stands_for_itself c = is_one_of (92 ∷ 34 ∷ 39 ∷ 32 ∷ []) c
 
--- the escape whose backslash stands at a place, by the byte behind the backslash
-abbrev pub escape_by : List ℕ → ℕ → ℕ → Coded
-escape_by text at c =
-    if c == 256 then Absent
-    else (if stands_for_itself c then Stands c (at + 2)
-    else (if c == 110 then Stands 10 (at + 2)
-    else (if c == 116 then Stands 9 (at + 2)
-    else (if c == 98 then Stands 8 (at + 2)
-    else (if c == 114 then Stands 13 (at + 2)
-    else (if is_ascii_digit c then by_number (at + 4) (fixed 10 text 3 0 (at + 1))
+-- the byte of an escape of one letter: `\n`, `\t`, `\b`, `\r` and those that stand for themselves
+abbrev pub letter : ℕ → Option ℕ
+letter c =
+    if stands_for_itself c then Some c
+    else (if c == 110 then Some 10
+    else (if c == 116 then Some 9
+    else (if c == 98 then Some 8
+    else (if c == 114 then Some 13
+    else None))))
+
+-- an escape of digits: `\ddd` in decimal, `\xhh` and `\oooo`
+abbrev pub numbered : List ℕ → ℕ → ℕ → Coded
+numbered text at c =
+    if is_ascii_digit c then by_number (at + 4) (fixed 10 text 3 0 (at + 1))
     else (if c == 120 then by_number (at + 4) (fixed 16 text 2 0 (at + 2))
     else (if c == 111 then by_number (at + 5) (fixed 8 text 3 0 (at + 2))
-    else Bad))))))))
+    else Bad))
 
+abbrev pub escape_by : List ℕ → ℕ → ℕ → Option ℕ → Coded
+escape_by text at c (Some b) = Stands b (at + 2)
+escape_by text at c None = numbered text at c
+
+-- the escape whose backslash stands at a place
 unfoldable pub escape : List ℕ → ℕ → Coded
-escape text at = escape_by text at (byte text (at + 1))
+escape text at = if byte text (at + 1) == 256 then Absent else escape_by text at (byte text (at + 1)) (letter (byte text (at + 1)))
 
 -- a byte between quotes: the closing quote stands behind it
 abbrev pub quoted : List ℕ → Coded → Coded

@@ -1,6 +1,6 @@
 -- The numbers that literals and escapes write.
 use Rattle.std.specs.Prelude.{ℕ, zero, suc, ◌+◌, ◌*◌, ◌^◌, Bool, ◌||◌, ◌&&◌, ◌==◌, List, [], ◌∷◌, drop, Option, Some, None, ℤ, pos, negsuc, if◌then◌else◌, nat_lt, ◌-◌}
-use Rattle.std.specs.Option.{option_and_then}
+use Rattle.std.specs.Option.{option_and_then, option_map}
 use Rattle.std.specs.Char.{digit_value}
 use Rattle.ml_lexer.specs.Bytes.{byte}
 
@@ -27,11 +27,18 @@ base_of run =
     else 10)))
     else 10
 
+-- a value of at most 63 bits
+abbrev pub small : Option ℕ → Option ℕ
+small o = option_and_then (λ v. if nat_lt v (2 ^ 63) then Some v else None) o
+
 -- 63 bits as a number with a sign
-abbrev pub wrapped : ℕ → Option ℤ
-wrapped v =
-    if nat_lt v (2 ^ 62) then Some (pos v)
-    else (if nat_lt v (2 ^ 63) then Some (negsuc (2 ^ 63 - 1 - v)) else None)
+abbrev pub wrapped : ℕ → ℤ
+wrapped v = if nat_lt v (2 ^ 62) then pos v else negsuc (2 ^ 63 - 1 - v)
+
+-- the digits behind a prefix, of which the first is no mark
+abbrev pub based : ℕ → List ℕ → Option ℤ
+based base run =
+    if nat_lt (digit_value (byte run 2)) base then option_map wrapped (small (digits base 0 (drop 2 run))) else None
 
 -- a decimal value: below 2^62, or 2^62 itself behind a minus
 abbrev pub decimal : Bool → ℕ → Option ℤ
@@ -41,13 +48,8 @@ decimal after_minus v =
 
 abbrev pub number_in : ℕ → Bool → List ℕ → Option ℤ
 number_in base after_minus run =
-    if base == 10 then option_and_then (decimal after_minus) (digits 10 0 run)
-    else (if nat_lt (digit_value (byte run 2)) base then option_and_then wrapped (digits base 0 (drop 2 run)) else None)
+    if base == 10 then option_and_then (decimal after_minus) (digits 10 0 run) else based base run
 
 -- the value of a number literal, if the run is one
 unfoldable pub number : Bool → List ℕ → Option ℤ
 number after_minus run = number_in (base_of run) after_minus run
-
--- a value of at most 63 bits
-abbrev pub small : Option ℕ → Option ℕ
-small o = option_and_then (λ v. if nat_lt v (2 ^ 63) then Some v else None) o

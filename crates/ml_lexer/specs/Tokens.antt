@@ -14,9 +14,11 @@ use Rattle.ml_lexer.specs.declared.bytes.Class.TheVariants.{Blank, SmallLetter, 
 use Rattle.ml_lexer.specs.declared.bytes.Run.TheVariants.{Name, Number, Operator}
 use Rattle.ml_lexer.specs.declared.literals.Coded.{Coded}
 use Rattle.ml_lexer.specs.declared.literals.Coded.TheVariants.{Absent, Bad, Stands}
+use Rattle.ml_lexer.specs.declared.literals.InText.{InText}
 use Rattle.ml_lexer.specs.declared.literals.InText.TheVariants.{Cut, Closes, Wrong, Byte}
 use Rattle.ml_lexer.specs.declared.literals.TextEnd.{TextEnd}
 use Rattle.ml_lexer.specs.declared.literals.TextEnd.TheVariants.{ClosedAt, BadAt, Unclosed}
+use Rattle.ml_lexer.specs.declared.comments.InComment.{InComment}
 use Rattle.ml_lexer.specs.declared.comments.InComment.TheVariants.{Over, Opens, Leaves, Passes}
 use Rattle.ml_lexer.specs.declared.pieces.Look.{Look}
 use Rattle.ml_lexer.specs.declared.pieces.Look.TheVariants.{Nothing, Space, Plain, Fault, OpensComment, OpensText}
@@ -75,6 +77,14 @@ quote_by text at (Stands b end) = Plain (Char b) end
 abbrev pub name_to : List ℕ → ℕ → ℕ → Look
 name_to text at end = Plain (named (slice_range text at end) (place_in words (slice_range text at end))) end
 
+-- `(` opens a comment where `*` (42) stands behind it
+abbrev pub bracket : List ℕ → ℕ → Look
+bracket text at = if byte text (at + 1) == 42 then OpensComment else sign_to text at (at + 1)
+
+-- a separator of one byte or two, or a byte outside the alphabet
+abbrev pub other : List ℕ → ℕ → Look
+other text at = if is_pair (byte text at) (byte text (at + 1)) then sign_to text at (at + 2) else sign_to text at (at + 1)
+
 -- what a byte of a class begins: the longest token of its forms, a fault, a comment or a text
 abbrev pub look_by : Class → Bool → List ℕ → ℕ → Look
 look_by Blank after_minus text at = Space
@@ -83,39 +93,58 @@ look_by CapitalLetter after_minus text at = Plain Upper (run_end Name text (at +
 look_by Digit after_minus text at = number_to after_minus text at (run_end Number text (at + 1))
 look_by Quote after_minus text at = quote_by text at (character text at)
 look_by DoubleQuote after_minus text at = OpensText
-look_by Bracket after_minus text at = if byte text (at + 1) == 42 then OpensComment else sign_to text at (at + 1)
+look_by Bracket after_minus text at = bracket text at
 look_by Mark after_minus text at = sign_to text at (run_end Operator text (at + 1))
-look_by Other after_minus text at = sign_to text at (if is_pair (byte text at) (byte text (at + 1)) then at + 2 else at + 1)
+look_by Other after_minus text at = other text at
 
 unfoldable pub look : Bool → List ℕ → ℕ → Look
 look after_minus text at = if byte text at == 256 then Nothing else look_by (class (byte text at)) after_minus text at
 
--- from a place behind the first quote: the bytes that a text literal stands for, and its end; an
--- open text has none, and a bad escape comes before it
-pub data TextFrom (text : List ℕ) : ℕ → List ℕ → TextEnd → Type 0 where
-  closes : {at : ℕ} → in_text text at ≡ Closes → TextFrom text at [] (ClosedAt (suc at))
-  cut : {at : ℕ} → in_text text at ≡ Cut → TextFrom text at [] Unclosed
-  wrong : {at : ℕ} → in_text text at ≡ Wrong → TextFrom text at [] (BadAt at)
-  goes_on : {at b next : ℕ} {bytes : List ℕ} {e : TextEnd} → in_text text at ≡ Byte b next → TextFrom text next bytes e → TextFrom text at (b ∷ bytes) e
+-- inside a text literal, at a place where this stands: the bytes that the literal stands for from there
+-- on, and its end; an open text has none, and a bad escape comes before it
+pub data TextBy (text : List ℕ) : InText → ℕ → List ℕ → TextEnd → Type 0 where
+  closes : {at : ℕ} → TextBy text Closes at [] (ClosedAt (at + 1))
+  cut : {at : ℕ} → TextBy text Cut at [] Unclosed
+  wrong : {at : ℕ} → TextBy text Wrong at [] (BadAt at)
+  goes_on : {at b next : ℕ} {bytes : List ℕ} {e : TextEnd} → TextBy text (in_text text next) next bytes e → TextBy text (Byte b next) at (b ∷ bytes) e
 
--- from a place in a comment, inside so many more: where the outermost one ends, if it does
-pub data CommentFrom (text : List ℕ) : ℕ → ℕ → Option ℕ → Type 0 where
-  over : {inner at : ℕ} → in_comment text at ≡ Over → CommentFrom text inner at None
-  ends : {at : ℕ} → in_comment text at ≡ Leaves → CommentFrom text zero at (Some (at + 2))
-  leaves : {inner at : ℕ} {e : Option ℕ} → in_comment text at ≡ Leaves → CommentFrom text inner (at + 2) e → CommentFrom text (suc inner) at e
-  opens : {inner at : ℕ} {e : Option ℕ} → in_comment text at ≡ Opens → CommentFrom text (suc inner) (at + 2) e → CommentFrom text inner at e
-  passes : {inner at next : ℕ} {e : Option ℕ} → in_comment text at ≡ Passes next → CommentFrom text inner next e → CommentFrom text inner at e
+abbrev pub TextFrom : List ℕ → ℕ → List ℕ → TextEnd → Type 0
+TextFrom text at bytes e = TextBy text (in_text text at) at bytes e
 
--- this piece, or this fault, begins at the place
-pub data Begins (text : List ℕ) (after_minus : Bool) : ℕ → Piece → Type 0 where
-  blank : {at : ℕ} → look after_minus text at ≡ Space → Begins text after_minus at (Skips (at + 1))
-  plain : {at end : ℕ} {kind : TokenKind} → look after_minus text at ≡ Plain kind end → Begins text after_minus at (Takes kind end)
-  fault : {at : ℕ} {r : Refusal} → look after_minus text at ≡ Fault r → Begins text after_minus at (Faults r)
-  comment : {at end : ℕ} → look after_minus text at ≡ OpensComment → CommentFrom text zero (at + 2) (Some end) → Begins text after_minus at (Skips end)
-  open_comment : {at : ℕ} → look after_minus text at ≡ OpensComment → CommentFrom text zero (at + 2) None → Begins text after_minus at (Faults (refusal OpenComment at (at + 2)))
-  quotation : {at end : ℕ} {bytes : List ℕ} → look after_minus text at ≡ OpensText → TextFrom text (at + 1) bytes (ClosedAt end) → Begins text after_minus at (Takes Text end)
-  bad_escape : {at bad : ℕ} {bytes : List ℕ} → look after_minus text at ≡ OpensText → TextFrom text (at + 1) bytes (BadAt bad) → Begins text after_minus at (Faults (refusal BadEscape bad (bad + 2)))
-  open_text : {at : ℕ} {bytes : List ℕ} → look after_minus text at ≡ OpensText → TextFrom text (at + 1) bytes Unclosed → Begins text after_minus at (Faults (refusal OpenText at (at + 1)))
+-- inside so many comments of an outermost one, at a place where this stands: where the outermost one
+-- ends, if it does
+pub data CommentBy (text : List ℕ) : InComment → ℕ → ℕ → Option ℕ → Type 0 where
+  over : {inner at : ℕ} → CommentBy text Over inner at None
+  ends : {at : ℕ} → CommentBy text Leaves zero at (Some (at + 2))
+  leaves : {inner at : ℕ} {e : Option ℕ} → CommentBy text (in_comment text (at + 2)) inner (at + 2) e → CommentBy text Leaves (suc inner) at e
+  opens : {inner at : ℕ} {e : Option ℕ} → CommentBy text (in_comment text (at + 2)) (inner + 1) (at + 2) e → CommentBy text Opens inner at e
+  passes : {inner at next : ℕ} {e : Option ℕ} → CommentBy text (in_comment text next) inner next e → CommentBy text (Passes next) inner at e
+
+abbrev pub CommentFrom : List ℕ → ℕ → ℕ → Option ℕ → Type 0
+CommentFrom text inner at e = CommentBy text (in_comment text at) inner at e
+
+-- a comment is passed over; an open one is a fault at its first two bytes
+abbrev pub comment_piece : ℕ → Option ℕ → Piece
+comment_piece at (Some end) = Skips end
+comment_piece at None = Faults (refusal OpenComment at (at + 2))
+
+-- a bad escape is a fault at its first two bytes, and an open text one at its quote
+abbrev pub text_piece : ℕ → TextEnd → Piece
+text_piece at (ClosedAt end) = Takes Text end
+text_piece at (BadAt bad) = Faults (refusal BadEscape bad (bad + 2))
+text_piece at Unclosed = Faults (refusal OpenText at (at + 1))
+
+-- what a look at a place comes to, once the comment or the text that opens there is read
+pub data Comes (text : List ℕ) (at : ℕ) : Look → Piece → Type 0 where
+  blank : Comes text at Space (Skips (at + 1))
+  plain : {kind : TokenKind} {end : ℕ} → Comes text at (Plain kind end) (Takes kind end)
+  fault : {r : Refusal} → Comes text at (Fault r) (Faults r)
+  comment : {e : Option ℕ} → CommentFrom text zero (at + 2) e → Comes text at OpensComment (comment_piece at e)
+  quotation : {bytes : List ℕ} {e : TextEnd} → TextFrom text (at + 1) bytes e → Comes text at OpensText (text_piece at e)
+
+-- this blank, comment, token or fault begins at the place
+abbrev pub Begins : List ℕ → Bool → ℕ → Piece → Type 0
+Begins text after_minus at p = Comes text at (look after_minus text at) p
 
 abbrev pub is_minus : TokenKind → Bool
 is_minus (Sign n) = n == 14

@@ -1,7 +1,7 @@
 ghost use Rattle.std.specs.Prelude.{◌≡◌, ◌≤◌, ◌<◌, ◌+◌, ◌*◌, ℕ, List, Option, length, OnSome, IfSome, IfOk};
 ghost use Rattle.ml_lexer.specs.Bytes.{byte};
 ghost use Rattle.ml_lexer.specs.Numbers.{with_digit};
-ghost use Rattle.ml_lexer.specs.Literals.{fixed, by_number, stands_for_itself, escape, quoted, character, in_escape, in_text};
+ghost use Rattle.ml_lexer.specs.Literals.{fixed, by_number, stands_for_itself, letter, numbered, escape, quoted, character, in_escape, in_text};
 ghost use Rattle.ml_lexer.specs.Tokens.{TextFrom, IsTextToken, IsLiteral};
 ghost use Rattle.ml_lexer.specs.Bounds.{CodedEndsWithin, QuoteEndsWithin, InTextEndsWithin, TextEndsWithin};
 
@@ -100,27 +100,32 @@ fn stands_for_itself(c: u8) -> bool
     matches!(c, b'\\' | b'"' | b'\'' | b' ')
 }
 
-#[tactic(auto, unfolding(crate::specs::Literals::escape, crate::specs::Bytes::byte))]
-/// The escape whose backslash stands at a place.
-fn escape_at(text: &[u8], at: usize) -> Coded
-    requires { at < length text.now }
-    ensures escape { result ≡ escape text.now at }
+/// The byte of an escape of one letter.
+fn letter(c: u8) -> Option<u8>
+    ensures { result ≡ letter c }
+{
+    if stands_for_itself(c) {
+        Some(c)
+    } else if c == b'n' {
+        Some(b'\n')
+    } else if c == b't' {
+        Some(b'\t')
+    } else if c == b'b' {
+        Some(8)
+    } else if c == b'r' {
+        Some(b'\r')
+    } else {
+        None
+    }
+}
+
+/// An escape of digits, by the byte behind its backslash.
+fn numbered(text: &[u8], at: usize, c: u8) -> Coded
+    requires { at + 2 ≤ length text.now }
+    ensures numbered { result ≡ numbered text.now at c }
     ensures within { CodedEndsWithin at (length text.now) result }
 {
-    let Some(&c) = text.get(at + 1) else {
-        return Coded::Absent;
-    };
-    if stands_for_itself(c) {
-        Coded::Stands(c, at + 2)
-    } else if c == b'n' {
-        Coded::Stands(b'\n', at + 2)
-    } else if c == b't' {
-        Coded::Stands(b'\t', at + 2)
-    } else if c == b'b' {
-        Coded::Stands(8, at + 2)
-    } else if c == b'r' {
-        Coded::Stands(b'\r', at + 2)
-    } else if c.is_ascii_digit() {
+    if c.is_ascii_digit() {
         by_number(at + 4, three_digits(10, text, at + 1))
     } else if c == b'x' {
         by_number(at + 4, two_digits(16, text, at + 2))
@@ -131,7 +136,22 @@ fn escape_at(text: &[u8], at: usize) -> Coded
     }
 }
 
-#[tactic(auto, unfolding(crate::specs::Bytes::byte))]
+#[tactic(auto, unfolding(crate::specs::Literals::escape, crate::specs::Bytes::byte))]
+/// The escape whose backslash stands at a place.
+fn escape_at(text: &[u8], at: usize) -> Coded
+    requires { at < length text.now }
+    ensures escape { result ≡ escape text.now at }
+    ensures within { CodedEndsWithin at (length text.now) result }
+{
+    let Some(&c) = text.get(at + 1) else {
+        return Coded::Absent;
+    };
+    match letter(c) {
+        Some(b) => Coded::Stands(b, at + 2),
+        None => numbered(text, at, c),
+    }
+}
+
 /// What stands behind the quote at a place, if the closing quote stands behind that.
 fn quoted(text: &[u8], at: usize, coded: Coded) -> Coded
     requires { QuoteEndsWithin at (length text.now) coded }

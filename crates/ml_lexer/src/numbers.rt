@@ -1,6 +1,6 @@
 ghost use Rattle.std.specs.Prelude.{◌≡◌, ◌≤◌, ◌<◌, ◌*◌, ◌+◌, ◌^◌, length, drop, OnSome, IfSome};
 ghost use Rattle.ml_lexer.specs.Bytes.{byte};
-ghost use Rattle.ml_lexer.specs.Numbers.{with_digit, digits, base_of, number, number_in, wrapped, decimal, small};
+ghost use Rattle.ml_lexer.specs.Numbers.{with_digit, digits, base_of, number, number_in, wrapped, based, decimal, small};
 
 use crate::bytes::byte_at;
 
@@ -9,7 +9,8 @@ use crate::bytes::byte_at;
 fn with_digit(base: u32, value: u64, c: u8) -> Option<u64>
     requires low { 2 ≤ base }
     requires high { base ≤ 36 }
-    ensures { result ≡ small (with_digit base value c) }
+    ensures value { result ≡ small (with_digit base value c) }
+    ensures fits { IfSome result (λ v. v < 2 ^ 63) }
 {
     let digit = char::from(c).to_digit(base)?;
     let value = value
@@ -24,7 +25,8 @@ fn with_digit(base: u32, value: u64, c: u8) -> Option<u64>
 fn digits(base: u32, run: &[u8]) -> Option<u64>
     requires low { 2 ≤ base }
     requires high { base ≤ 36 }
-    ensures { result ≡ small (digits base 0 run.now) }
+    ensures value { result ≡ small (digits base 0 run.now) }
+    ensures fits { IfSome result (λ v. v < 2 ^ 63) }
 {
     let mut value = 0;
     for c in run {
@@ -53,16 +55,28 @@ fn base_of(run: &[u8]) -> u32
 }
 
 /// The 63 bits of a value as an `int`.
-fn wrapped(value: u64) -> Option<i64>
+fn wrapped(value: u64) -> i64
+    requires { value < 2 ^ 63 }
     ensures { result ≡ wrapped value }
 {
     if value < 1 << 62 {
-        Some(value as i64)
-    } else if value < 1 << 63 {
-        Some(value as i64 + i64::MIN)
+        value as i64
     } else {
-        None
+        value as i64 + i64::MIN
     }
+}
+
+#[tactic(auto, unfolding(crate::specs::Bytes::byte))]
+/// The value of a number with a prefix for its base.
+fn based(base: u32, run: &[u8]) -> Option<i64>
+    requires low { 2 ≤ base }
+    requires high { base ≤ 36 }
+    ensures { result ≡ based base run.now }
+{
+    let first = *run.get(2)?;
+    let _digit = char::from(first).to_digit(base)?;
+    let value = digits(base, &run[2..])?;
+    Some(wrapped(value))
 }
 
 /// A decimal value as an `int`: 2^62 stands only behind a minus, which it takes in.
@@ -85,10 +99,8 @@ pub fn number(after_minus: bool, run: &[u8]) -> Option<i64>
 {
     let base = base_of(run);
     if base == 10 {
-        return decimal(after_minus, digits(10, run)?);
+        let value = digits(10, run)?;
+        return decimal(after_minus, value);
     }
-    if run.len() < 3 || char::from(run[2]).to_digit(base).is_none() {
-        return None;
-    }
-    wrapped(digits(base, &run[2..])?)
+    based(base, run)
 }

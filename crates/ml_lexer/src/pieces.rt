@@ -2,7 +2,7 @@ ghost use Rattle.std.specs.Prelude.{◌≡◌, ◌≤◌, ◌<◌, ◌+◌, ◌^
 ghost use Rattle.ml_lexer.specs.Bytes.{byte, run_end};
 ghost use Rattle.ml_lexer.specs.Literals.{character};
 ghost use Rattle.ml_lexer.specs.declared.bytes.Run.TheVariants.{Name};
-ghost use Rattle.ml_lexer.specs.Tokens.{refusal, named, sign_to, number_to, is_pair, is_lower_name, variable_to, quote_by, name_to, look, Begins};
+ghost use Rattle.ml_lexer.specs.Tokens.{refusal, named, sign_to, number_to, is_pair, is_lower_name, variable_to, quote_by, name_to, bracket, other, look_by, look, Begins};
 ghost use Rattle.ml_lexer.specs.Bounds.{LookEndsWithin, PieceEndsWithin};
 ghost use Rattle.ml_lexer.specs.Words.{words, place_in};
 
@@ -66,7 +66,8 @@ fn sign_to(text: &[u8], at: usize, end: usize) -> Look
     requires order { at ≤ end }
     requires within { end ≤ length text.now }
     requires small { length text.now < 2 ^ 32 }
-    ensures { result ≡ sign_to text.now at end }
+    ensures sign { result ≡ sign_to text.now at end }
+    ensures within { at < end → LookEndsWithin at (length text.now) result }
 {
     match sign_number(&text[at..end]) {
         Some(n) => Look::Plain(TokenKind::Sign(n), end),
@@ -78,7 +79,8 @@ fn number_to(after_minus: bool, text: &[u8], at: usize, end: usize) -> Look
     requires order { at ≤ end }
     requires within { end ≤ length text.now }
     requires small { length text.now < 2 ^ 32 }
-    ensures { result ≡ number_to after_minus text.now at end }
+    ensures number { result ≡ number_to after_minus text.now at end }
+    ensures within { at < end → LookEndsWithin at (length text.now) result }
 {
     match number(after_minus, &text[at..end]) {
         Some(value) => Look::Plain(TokenKind::Int(value), end),
@@ -141,16 +143,44 @@ fn quote_at(text: &[u8], at: usize) -> Look
     }
 }
 
-#[tactic(auto, unfolding(crate::specs::Tokens::look))]
-/// What a place of a text begins.
-fn look_at(text: &[u8], at: usize, after_minus: bool) -> Look
+#[tactic(auto, unfolding(crate::specs::Bytes::byte))]
+/// What `(` at a place begins: a comment where `*` stands behind it.
+fn bracket_at(text: &[u8], at: usize) -> Look
     requires place { at < length text.now }
     requires small { length text.now < 2 ^ 32 }
-    ensures look { result ≡ look after_minus text.now at }
+    ensures bracket { result ≡ bracket text.now at }
     ensures within { LookEndsWithin at (length text.now) result }
 {
-    let next = byte_at(text, at + 1);
-    match class_of(text[at]) {
+    if at + 1 < text.len() && text[at + 1] == b'*' {
+        Look::OpensComment
+    } else {
+        sign_to(text, at, at + 1)
+    }
+}
+
+#[tactic(auto, unfolding(crate::specs::Bytes::byte))]
+/// The separator of one byte or two at a place; a fault where there is none.
+fn other_at(text: &[u8], at: usize) -> Look
+    requires place { at < length text.now }
+    requires small { length text.now < 2 ^ 32 }
+    ensures other { result ≡ other text.now at }
+    ensures within { LookEndsWithin at (length text.now) result }
+{
+    if at + 1 < text.len() && is_pair(byte_at(text, at), byte_at(text, at + 1)) {
+        sign_to(text, at, at + 2)
+    } else {
+        sign_to(text, at, at + 1)
+    }
+}
+
+/// What a byte of a class at a place begins.
+fn look_by(class: Class, text: &[u8], at: usize, after_minus: bool) -> Look
+    requires place { at < length text.now }
+    requires small { length text.now < 2 ^ 32 }
+    ensures look { result ≡ look_by class after_minus text.now at }
+    ensures within { LookEndsWithin at (length text.now) result }
+{
+    match class {
         Class::Blank => Look::Space,
         Class::SmallLetter => {
             let end = run_end(Run::Name, text, at + 1);
@@ -160,12 +190,21 @@ fn look_at(text: &[u8], at: usize, after_minus: bool) -> Look
         Class::Digit => number_to(after_minus, text, at, run_end(Run::Number, text, at + 1)),
         Class::Quote => quote_at(text, at),
         Class::DoubleQuote => Look::OpensText,
-        Class::Bracket if next == 42 => Look::OpensComment,
-        Class::Bracket => sign_to(text, at, at + 1),
+        Class::Bracket => bracket_at(text, at),
         Class::Mark => sign_to(text, at, run_end(Run::Operator, text, at + 1)),
-        Class::Other if is_pair(u16::from(text[at]), next) => sign_to(text, at, at + 2),
-        Class::Other => sign_to(text, at, at + 1),
+        Class::Other => other_at(text, at),
     }
+}
+
+#[tactic(auto, unfolding(crate::specs::Tokens::look, crate::specs::Bytes::byte))]
+/// What a place of a text begins.
+fn look_at(text: &[u8], at: usize, after_minus: bool) -> Look
+    requires place { at < length text.now }
+    requires small { length text.now < 2 ^ 32 }
+    ensures look { result ≡ look after_minus text.now at }
+    ensures within { LookEndsWithin at (length text.now) result }
+{
+    look_by(class_of(text[at]), text, at, after_minus)
 }
 
 /// The piece that begins at a place of a text.
