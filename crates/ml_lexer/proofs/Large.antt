@@ -1,8 +1,9 @@
 -- A value past 63 bits stays so, whatever digits follow.
-use Rattle.std.proofs.Common.{◌≡◌, ℕ, ◌+◌, ◌*◌, ◌^◌, ◌<◌, ◌≤◌, Bool, true, false, cond, eqb, ltb, List, [], ◌∷◌, Option, Some, None, refl, sym, subst, arith, IfSome}
+use Rattle.std.proofs.Common.{◌≡◌, ℕ, ◌+◌, ◌*◌, ◌^◌, ◌<◌, ◌≤◌, Bool, true, false, cond, eqb, ltb, List, [], ◌∷◌, length, get_or, drop, Option, Some, None, refl, sym, subst, arith, IfSome}
 use Rattle.std.specs.Option.{option_and_then}
 use Rattle.std.specs.Char.{digit_value}
 use Rattle.std.proofs.lemmas.Bool.Decides.{nat_tests}
+use Rattle.std.proofs.lemmas.List.{drop_more}
 use Rattle.std.proofs.Math.Nat.{mul-le-mul_left}
 use Rattle.ml_lexer.specs.Numbers.{with_digit, with_mark, digits, small}
 
@@ -46,3 +47,12 @@ none_step base cs (Some w) b h = digits-large base w cs b (grind (arith, nat_tes
 pub digits-none : (base v c : ℕ) (cs : List ℕ) → 2 ≤ base → with_mark base v c ≡ with_digit base v c → small (with_digit base v c) ≡ None → small (digits base v (c ∷ cs)) ≡ None
 unfolding digits
 digits-none base v c cs b e h = none_step base cs (with_mark base v c) b (subst (λ (o : Option ℕ). small o ≡ None) (sym e) h)
+
+mark-other : (base v c : ℕ) → (c ≡ 95 → ⊥) → with_mark base v c ≡ with_digit base v c
+mark-other base v c h = grind (arith, nat_tests)
+
+-- the digits from a place on have no value of 63 bits where the first one makes it too large
+pub digits-none_at : (base v : ℕ) (run : List ℕ) (i : ℕ) → 2 ≤ base → i < length run → (get_or run i 0 ≡ 95 → ⊥) → None ≡ small (with_digit base v (get_or run i 0)) → small (digits base v (drop i run)) ≡ None
+digits-none_at base v run i b l n h =
+    let c = get_or run i 0 in
+    rw (drop_more run i 0 l) (digits-none base v c (drop (i + 1) run) b (mark-other base v c n) (sym h))

@@ -1,2 +1,5 @@
+pub mod Divisions
 pub mod Large
 pub mod NoText
+pub mod Order
+pub mod Sound

@@ -48,7 +48,7 @@ InCommentEndsWithin at end Leaves = at + 2 ≤ end
 InCommentEndsWithin at end (Passes next) = IsPast at end next
 
 abbrev pub LookEndsWithin : ℕ → ℕ → Look → Type 0
-LookEndsWithin at end Nothing = Unit {0}
+LookEndsWithin at end Nothing = ⊥
 LookEndsWithin at end Space = at < end
 LookEndsWithin at end (Plain kind next) = IsPast at end next
 LookEndsWithin at end (Fault r) = Unit {0}

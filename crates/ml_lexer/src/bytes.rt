@@ -1,4 +1,5 @@
-ghost use Rattle.std.specs.Prelude.{◌≡◌, ◌≤◌, ◌<◌, length};
+ghost use Rattle.std.specs.Prelude.{◌≡◌, ◌==◌, ◌≤◌, ◌<◌, length};
+ghost use Rattle.std.specs.Bool.{OnTrue};
 ghost use Rattle.ml_lexer.specs.Bytes.{byte, class, belongs, run_end, is_blank, begins_lower, begins_operator};
 
 /// The classes of bytes, by what a token that begins with one is.
@@ -34,6 +35,18 @@ pub fn byte_at(text: &[u8], at: usize) -> u16
     match text.get(at) {
         Some(b) => u16::from(*b),
         None => 256,
+    }
+}
+
+#[tactic(auto, unfolding(crate::specs::Bytes::byte))]
+/// Whether a byte stands at a place.
+pub fn stands(text: &[u8], at: usize, b: u8) -> bool
+    ensures value { result ≡ (byte text.now at == b) }
+    ensures within { OnTrue result (at < length text.now) }
+{
+    match text.get(at) {
+        Some(c) => *c == b,
+        None => false,
     }
 }
 

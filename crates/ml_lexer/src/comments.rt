@@ -4,7 +4,7 @@ ghost use Rattle.ml_lexer.specs.Literals.{text_end, passes_text, passes_characte
 ghost use Rattle.ml_lexer.specs.Tokens.{CommentFrom};
 ghost use Rattle.ml_lexer.specs.Bounds.{InCommentEndsWithin, IsPast};
 
-use crate::bytes::byte_at;
+use crate::bytes::stands;
 use crate::literals::{Coded, character_at};
 
 /// What stands at a place in a comment.
@@ -91,9 +91,9 @@ fn in_comment_at(text: &[u8], at: usize, texts_end: &mut bool) -> InComment
         passes_text(text, at, texts_end)
     } else if c == b'\'' {
         passes_character(text, at)
-    } else if c == b'(' && byte_at(text, at + 1) == 42 {
+    } else if c == b'(' && stands(text, at + 1, b'*') {
         InComment::Opens
-    } else if c == b'*' && byte_at(text, at + 1) == 41 {
+    } else if c == b'*' && stands(text, at + 1, b')') {
         InComment::Leaves
     } else {
         InComment::Passes(at + 1)

@@ -1,5 +1,5 @@
 ghost use Rattle.std.specs.Prelude.{◌≡◌, ◌≤◌, ◌<◌, ◌^◌, length, All, IfOk, IfErr};
-ghost use Rattle.ml_lexer.specs.Tokens.{Tokens, is_minus};
+ghost use Rattle.ml_lexer.specs.Tokens.{Tokens, AreInOrder, IsSound, is_minus};
 ghost use Rattle.ml_lexer.specs.Answers.{Explains};
 
 use crate::errors::LexErr;
@@ -39,15 +39,18 @@ fn span(from: usize, to: usize) -> Span
 pub fn lex(alloc: Global, text: &[u8], part: Span) -> Result<Items<Token>, LexErr>
     requires order { part.start ≤ part.end }
     requires within { part.end ≤ length text.now }
-    ensures ok { IfOk result (λ tokens. Tokens text.now part tokens × (length tokens ≤ MAX_TOKENS)) }
+    ensures ok { IfOk result (Tokens text.now part) }
+    ensures few { IfOk result (λ tokens. length tokens ≤ MAX_TOKENS) }
+    ensures order { IfOk result (λ tokens. AreInOrder part.start tokens part.end) }
+    ensures texts { IfOk result (All (IsSound text.now)) }
     ensures err { IfErr result (Explains text.now part) }
 {
-    let text = &text[..part.end as usize];
+    let bytes = &text[..part.end as usize];
     let mut tokens = Items::new(alloc);
     let mut at = part.start as usize;
     let mut after_minus = false;
-    'pieces: while at < text.len() {
-        match piece_at(text, at, after_minus) {
+    'pieces: while at < bytes.len() {
+        match piece_at(bytes, at, after_minus) {
             Piece::Skips(next) => at = next,
             Piece::Faults(fault) => return Err(LexErr::Refused(fault)),
             Piece::Takes(kind, next) => {

@@ -5,7 +5,7 @@ ghost use Rattle.ml_lexer.specs.Literals.{fixed, by_number, stands_for_itself, l
 ghost use Rattle.ml_lexer.specs.Tokens.{TextFrom, IsTextToken, IsLiteral};
 ghost use Rattle.ml_lexer.specs.Bounds.{CodedEndsWithin, QuoteEndsWithin, InTextEndsWithin, TextEndsWithin};
 
-use crate::bytes::byte_at;
+use crate::bytes::stands;
 use crate::token::Token;
 use oxml_base::{Items, Lit, NoMemory};
 use std::alloc::Global;
@@ -161,7 +161,7 @@ fn quoted(text: &[u8], at: usize, coded: Coded) -> Coded
     match coded {
         Coded::Absent => Coded::Absent,
         Coded::Bad => Coded::Bad,
-        Coded::Stands(b, end) if byte_at(text, end) == 39 => Coded::Stands(b, end + 1),
+        Coded::Stands(b, end) if stands(text, end, b'\'') => Coded::Stands(b, end + 1),
         Coded::Stands(_, _) => Coded::Absent,
     }
 }
@@ -245,7 +245,8 @@ pub fn text_bytes(alloc: Global, text: &[u8], token: Token) -> Result<Lit, NoMem
                 bytes.push(b)?;
                 here = next;
             }
-            _ => return Ok(Lit { bytes }),
+            InText::Closes => return Ok(Lit { bytes }),
+            InText::Cut | InText::Wrong => unreachable!(),
         }
     }
 }

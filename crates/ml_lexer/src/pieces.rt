@@ -6,7 +6,7 @@ ghost use Rattle.ml_lexer.specs.Tokens.{refusal, named, sign_to, number_to, is_p
 ghost use Rattle.ml_lexer.specs.Bounds.{LookEndsWithin, PieceEndsWithin};
 ghost use Rattle.ml_lexer.specs.Words.{words, place_in};
 
-use crate::bytes::{Class, Run, begins_lower, byte_at, class_of, run_end};
+use crate::bytes::{Class, Run, begins_lower, byte_at, class_of, run_end, stands};
 use crate::comments::comment_end;
 use crate::literals::{Coded, TextEnd, character_at, text_end};
 use crate::numbers::number;
@@ -151,7 +151,7 @@ fn bracket_at(text: &[u8], at: usize) -> Look
     ensures bracket { result ≡ bracket text.now at }
     ensures within { LookEndsWithin at (length text.now) result }
 {
-    if at + 1 < text.len() && text[at + 1] == b'*' {
+    if stands(text, at + 1, b'*') {
         Look::OpensComment
     } else {
         sign_to(text, at, at + 1)
@@ -215,7 +215,8 @@ pub fn piece_at(text: &[u8], at: usize, after_minus: bool) -> Piece
     ensures within { PieceEndsWithin at (length text.now) result }
 {
     match look_at(text, at, after_minus) {
-        Look::Nothing | Look::Space => Piece::Skips(at + 1),
+        Look::Nothing => unreachable!(),
+        Look::Space => Piece::Skips(at + 1),
         Look::Plain(kind, end) => Piece::Takes(kind, end),
         Look::Fault(fault) => Piece::Faults(fault),
         Look::OpensComment => match comment_end(text, at + 2) {
