@@ -3,3 +3,4 @@ pub mod Large
 pub mod NoText
 pub mod Order
 pub mod Sound
+pub mod Unique

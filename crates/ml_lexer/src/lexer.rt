@@ -12,7 +12,7 @@ use std::alloc::Global;
 /// The most tokens of a source.
 pub const MAX_TOKENS: usize = 200_000;
 
-fn is_minus(kind: TokenKind) -> bool
+pub fn is_minus(kind: TokenKind) -> bool
     ensures { result ≡ is_minus kind }
 {
     match kind {

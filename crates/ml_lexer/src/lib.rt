@@ -4,6 +4,7 @@
 mod bytes;
 mod comments;
 mod errors;
+pub mod laws;
 mod lexer;
 mod literals;
 mod numbers;
