@@ -10,6 +10,8 @@ mod literals;
 mod numbers;
 mod pieces;
 pub mod sign;
+#[cfg(test)]
+mod tests;
 mod token;
 pub mod word;
 mod words;
