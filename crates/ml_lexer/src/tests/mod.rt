@@ -4,9 +4,9 @@ mod cases;
 
 ghost use Rattle.std.specs.Prelude.{◌≤◌, length};
 
-use crate::{LexErr, MAX_TOKENS, TokenKind, lex, sign, text_bytes, word};
-use cases::{COMMENTS, Case, NAMES, NUMBERS, QUOTES, SIGNS, TEXTS};
-use oxml_base::{Limit, Span};
+use crate::{LexErr, MAX_TOKENS, TokenKind, lex, text_bytes};
+use cases::{COMMENTS, Case, NAMES, NUMBERS, OF_SIGNS, QUOTES, SIGNS, TEXTS, WORDS};
+use oxml_base::Span;
 use std::alloc::{AllocError, Global};
 use std::fmt::Write;
 use std::process::Abort;
@@ -114,5 +114,47 @@ fn limit(rt: HostRuntime) -> Result<(), Fail> {
     let end = u32::try_from(bytes.len()).ok().ok_or("long")?;
     let tokens = lex(alloc, bytes, Span { start: 0, end })?;
     assert_eq!(rt; tokens.len(), MAX_TOKENS);
+    Ok(())
+}
+
+#[test]
+fn numbers_of_words_and_signs(rt: HostRuntime) -> Result<(), Fail> {
+    let alloc = rt.alloc();
+    for (text, number) in WORDS {
+        let end = text.len();
+        let expected = format!(in alloc; "Word({number}) 0 {end}; ")?;
+        let found = whole_answer(alloc, text.as_bytes())?;
+        assert_eq!(rt; found.as_str(), expected.as_str());
+    }
+    for (text, number) in OF_SIGNS {
+        let end = text.len();
+        let expected = format!(in alloc; "Sign({number}) 0 {end}; ")?;
+        let found = whole_answer(alloc, text.as_bytes())?;
+        assert_eq!(rt; found.as_str(), expected.as_str());
+    }
+    Ok(())
+}
+
+#[test]
+fn literals(rt: HostRuntime) -> Result<(), Fail> {
+    let alloc = rt.alloc();
+    for (text, expected) in [
+        ("\"\"", ""),
+        (" \"x\\065y\"", "xAy"),
+        ("\"a\nb\"", "a\nb"),
+        (
+            "\"\\\\\\\"\\'\\n\\t\\b\\r\\ \\065\\x41\\o101\"",
+            "\\\"'\n\t\x08\r AAA",
+        ),
+    ] {
+        let text = text.as_bytes();
+        let end = u32::try_from(text.len()).ok().ok_or("long")?;
+        let tokens = lex(alloc, text, Span { start: 0, end })?;
+        assert_eq!(rt; tokens.len(), 1);
+        let token = tokens.as_slice()[0];
+        assert_eq!(rt; token.kind, TokenKind::Text);
+        let literal = text_bytes(alloc, text, token)?;
+        assert_eq!(rt; literal.bytes.as_slice(), expected.as_bytes());
+    }
     Ok(())
 }
