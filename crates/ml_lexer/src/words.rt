@@ -1,7 +1,8 @@
-ghost use Rattle.std.specs.Prelude.{◌≡◌, ◌<◌, length, map, OnSome};
+ghost use Rattle.std.specs.Prelude.{◌≡◌, ◌<◌, length, map, nat_eq};
+ghost use Rattle.std.specs.Cmp.Lexicographic.{pointwise};
 ghost use Rattle.ml_lexer.specs.Words.{words, signs, place_in};
 
-const WORDS: [&str; 65] = [
+static WORDS: [&str; 65] = [
     "and",
     "as",
     "asr",
@@ -69,10 +70,21 @@ const WORDS: [&str; 65] = [
     "while",
 ];
 
-const SIGNS: [&str; 29] = [
+static SIGNS: [&str; 29] = [
     "(", ")", "[", "]", "{", "}", ",", ";", ";;", ":", "::", ".", "_", "+", "-", "*", "/", "=",
     "<>", "<", ">", "<=", ">=", "&&", "||", "@", "^", "->", "|",
 ];
+
+/// Whether two texts are one. Most differ in their first byte, so that one is compared here.
+#[inline]
+fn is_same(t: &[u8], text: &[u8]) -> bool
+    ensures { result ≡ pointwise nat_eq t.now text.now }
+{
+    if t.len() > 0 && text.len() > 0 && t[0] != text[0] {
+        return false;
+    }
+    t == text
+}
 
 #[tactic(auto, unfolding(crate::specs::Words::place_in))]
 /// The place of a text in a list.
@@ -81,7 +93,7 @@ fn place_in(texts: &[&str], text: &[u8]) -> Option<u8>
     ensures { result ≡ place_in (map (λ t. t.now) texts.now) text.now }
 {
     for (n, t) in texts.iter().enumerate() {
-        if t.as_bytes() == text {
+        if is_same(t.as_bytes(), text) {
             return Some(n as u8);
         }
     }
