@@ -1,0 +1,56 @@
+-- Reads of lists after a push, a write or a `take`.
+use Rattle.std.proofs.Common.{◌≡◌, ◌≢◌, ℕ, zero, suc, ◌+◌, ◌<◌, ◌≤◌, ◌⊎◌, inl, inr, List, [], ◌∷◌, ◌++◌, length, take, Option, Some, None, slice_get, slice_set, refl, sym, ap, ◌∙◌, subst, arith}
+use Rattle.std.proofs.lemmas.List.{get_or_append_left, get_or_push, get_or_past, get_or-set_same, get_or-set_other}
+use Rattle.std.proofs.lemmas.Option.{slice_get_within}
+use Rattle.std.proofs.lemmas.Bool.{cases_lt}
+use Rattle.mode_lattice.specs.declared.clause.Bit.{Bit}
+use Rattle.mode_solver.specs.Graph.{entry}
+
+pub slice_get-push_at : {X : Type 0} → (xs : List X) (x : X) → slice_get (xs ++ x ∷ []) (length xs) ≡ Some x
+slice_get-push_at [] x = refl
+slice_get-push_at (y ∷ ys) x = slice_get-push_at ys x
+
+pub slice_get-append_left : {X : Type 0} → (xs ys : List X) (i : ℕ) (x : X) → slice_get xs i ≡ Some x → slice_get (xs ++ ys) i ≡ Some x
+slice_get-append_left [] ys i x e = absurd (elim cc [ ])
+slice_get-append_left (y ∷ xs) ys zero x e = e
+slice_get-append_left (y ∷ xs) ys (suc i) x e = slice_get-append_left xs ys i x e
+
+-- what a list has at a place after a push
+pub slice_get-push_cases : {X : Type 0} → (xs : List X) (y : X) (i : ℕ) (x : X) → slice_get (xs ++ y ∷ []) i ≡ Some x → (slice_get xs i ≡ Some x) ⊎ ((i ≡ length xs) × (y ≡ x))
+slice_get-push_cases [] y zero x e = inr (refl, cc)
+slice_get-push_cases [] y (suc i) x e = absurd cc
+slice_get-push_cases (z ∷ xs) y zero x e = inl e
+slice_get-push_cases (z ∷ xs) y (suc i) x e = elim (slice_get-push_cases xs y i x e) [ inl h ↦ inl h | inr h ↦ inr (ap suc h.0, h.1) ]
+
+-- an entry that is there stands within the list
+pub entry_within : (xs : List (Option ℕ)) (i v : ℕ) → entry xs i ≡ Some v → i < length xs
+entry_within xs i v e = elim (cases_lt i (length xs)) [ inl h ↦ h | inr h ↦ let n : entry xs i ≡ None = get_or_past xs i None h in absurd cc ]
+
+pub entry-push_left : (xs ys : List (Option ℕ)) (i : ℕ) → i < length xs → entry (xs ++ ys) i ≡ entry xs i
+entry-push_left xs ys i h = get_or_append_left xs ys None i h
+
+pub entry-push_at : (xs : List (Option ℕ)) (y : Option ℕ) (i : ℕ) → i ≡ length xs → entry (xs ++ y ∷ []) i ≡ y
+entry-push_at xs y i h = get_or_push xs y None i (sym h)
+
+pub entry-set_same : (xs : List (Option ℕ)) (i : ℕ) (v : Option ℕ) → i < length xs → entry (slice_set xs i v) i ≡ v
+entry-set_same xs i v h = get_or-set_same xs i v None h
+
+pub entry-set_other : (xs : List (Option ℕ)) (i j : ℕ) (v : Option ℕ) → (j ≡ i → ⊥) → entry (slice_set xs i v) j ≡ entry xs j
+entry-set_other xs i j v h = get_or-set_other xs i j v None h
+
+-- bits of one number are the same
+pub same_bit : (a b : Bit) → a.0 ≡ b.0 → a ≡ b
+same_bit a b e = let make : ℕ → Bit = λ n. record { 0 = n } in ap make e
+
+-- the beginnings of a list
+pub slice_get-take : {X : Type 0} → (n : ℕ) (xs : List X) (i : ℕ) (x : X) → slice_get (take n xs) i ≡ Some x → slice_get xs i ≡ Some x
+slice_get-take zero xs i x e = absurd cc
+slice_get-take (suc n) [] i x e = e
+slice_get-take (suc n) (y ∷ xs) zero x e = e
+slice_get-take (suc n) (y ∷ xs) (suc i) x e = slice_get-take n xs i x e
+
+pub take-last : {X : Type 0} → (n : ℕ) (xs : List X) (x : X) → slice_get xs n ≡ Some x → take (n + 1) xs ≡ take n xs ++ x ∷ []
+take-last zero [] x e = absurd cc
+take-last zero (y ∷ xs) x e = let h : y ≡ x = cc in ap (λ z. z ∷ []) h
+take-last (suc n) [] x e = absurd cc
+take-last (suc n) (y ∷ xs) x e = ap (λ z. y ∷ z) (take-last n xs x e)
