@@ -1,2 +1,4 @@
 pub mod Lists
 pub mod Graphs
+pub mod Reaches
+pub mod Walks

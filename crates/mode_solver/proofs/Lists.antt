@@ -1,8 +1,9 @@
 -- Reads of lists after a push, a write or a `take`.
-use Rattle.std.proofs.Common.{◌≡◌, ◌≢◌, ℕ, zero, suc, ◌+◌, ◌<◌, ◌≤◌, ◌⊎◌, inl, inr, List, [], ◌∷◌, ◌++◌, length, take, Option, Some, None, slice_get, slice_set, refl, sym, ap, ◌∙◌, subst, arith}
+use Rattle.std.proofs.Common.{◌≡◌, ◌≢◌, ℕ, zero, suc, ◌+◌, ◌<◌, ◌≤◌, ◌⊎◌, inl, inr, List, [], ◌∷◌, ◌++◌, length, take, Option, Some, None, slice_get, slice_set, refl, sym, ap, ◌∙◌, subst, arith, is_some, true, false, get_or}
 use Rattle.std.proofs.lemmas.List.{get_or_append_left, get_or_push, get_or_past, get_or-set_same, get_or-set_other}
-use Rattle.std.proofs.lemmas.Option.{slice_get_within}
+use Rattle.std.proofs.lemmas.Option.{slice_get_within, slice_get-get_or, get_or_from_slice_get}
 use Rattle.std.proofs.lemmas.Bool.{cases_lt}
+use native.Mathlib.Numerals.{unary_clauses}
 use Rattle.mode_lattice.specs.declared.clause.Bit.{Bit}
 use Rattle.mode_solver.specs.Graph.{entry}
 
@@ -11,7 +12,7 @@ slice_get-push_at [] x = refl
 slice_get-push_at (y ∷ ys) x = slice_get-push_at ys x
 
 pub slice_get-append_left : {X : Type 0} → (xs ys : List X) (i : ℕ) (x : X) → slice_get xs i ≡ Some x → slice_get (xs ++ ys) i ≡ Some x
-slice_get-append_left [] ys i x e = absurd (elim cc [ ])
+slice_get-append_left [] ys i x e = let no_item : ⊥ = cc in absurd no_item
 slice_get-append_left (y ∷ xs) ys zero x e = e
 slice_get-append_left (y ∷ xs) ys (suc i) x e = slice_get-append_left xs ys i x e
 
@@ -53,4 +54,21 @@ pub take-last : {X : Type 0} → (n : ℕ) (xs : List X) (x : X) → slice_get x
 take-last zero [] x e = absurd cc
 take-last zero (y ∷ xs) x e = let h : y ≡ x = cc in ap (λ z. z ∷ []) h
 take-last (suc n) [] x e = absurd cc
-take-last (suc n) (y ∷ xs) x e = ap (λ z. y ∷ z) (take-last n xs x e)
+take-last (suc n) (y ∷ xs) x e = simp unary_clauses (ap (λ z. y ∷ z) (simp unary_clauses at (take-last n xs x e)))
+
+-- an option that is some
+pub some_of : (o : Option ℕ) → is_some o ≡ true → (v : ℕ) × (o ≡ Some v)
+some_of None e = let no' : ⊥ = cc in absurd no'
+some_of (Some v) e = (v, refl)
+
+pub none_of : (o : Option ℕ) → is_some o ≡ false → o ≡ None
+none_of None e = refl
+none_of (Some v) e = let no' : ⊥ = cc in absurd no'
+
+-- what an index reads, as an item
+pub slice_get-is : {X : Type 0} → (xs : List X) (i : ℕ) (d x : X) → i < length xs → get_or xs i d ≡ x → slice_get xs i ≡ Some x
+slice_get-is xs i d x within e = slice_get-get_or xs i d within ∙ ap Some e
+
+-- an item is what an index reads, whatever the default
+pub not_item : {X : Type 0} → (xs : List X) (i : ℕ) (d x : X) → (get_or xs i d ≡ x → ⊥) → slice_get xs i ≡ Some x → ⊥
+not_item xs i d x h e = h (get_or_from_slice_get xs i x d e)

@@ -1,9 +1,10 @@
 -- The bits that the forms so far make true, in the order in which they were found.
-use Rattle.std.specs.Prelude.{◌≡◌, ℕ, ◌+◌, ◌<◌, ◌≤◌, List, [], ◌∷◌, ◌++◌, length, Option, Some, None, slice_get, slice_set, ◌⊎◌}
+use Rattle.std.specs.Prelude.{◌≡◌, ℕ, ◌+◌, ◌<◌, ◌≤◌, List, [], ◌∷◌, ◌++◌, length, Option, Some, None, slice_get, slice_set, ◌⊎◌, reverse}
 use Rattle.mode_lattice.specs.declared.clause.Bit.{Bit}
 use Rattle.mode_lattice.specs.declared.clause.Form.{Form}
 use Rattle.mode_lattice.specs.declared.clause.Form.TheVariants.{Imply, Force, Forbid}
 use Rattle.mode_solver.specs.declared.reach.Reached.{Reached}
+use Rattle.mode_solver.specs.Forms.{Leads, IsPath}
 use Rattle.mode_solver.specs.Graph.{entry}
 
 -- how many bits have no place yet
@@ -44,3 +45,18 @@ pub record IsDone (seen : List Form) (forbidden place : List (Option ℕ)) (reac
   pub forced : (b : Bit) (j : ℕ) → slice_get seen j ≡ Some (Force b) → IsOn place b
   pub implied : (p : ℕ) (e : Reached) → p < done → slice_get reached p ≡ Some e → (b : Bit) (j : ℕ) → slice_get seen j ≡ Some (Imply e.bit b) → IsOn place b
   pub free : (p : ℕ) (e : Reached) → p < done → slice_get reached p ≡ Some e → entry forbidden e.bit.0 ≡ None
+
+-- how far a walk down clauses or places has to go
+abbrev pub rank : Option ℕ → ℕ
+rank None = 0
+rank (Some p) = p + 1
+
+-- A walk over the implications from a bit: those above the next one have been followed.
+pub record IsWalk (seen : List Form) (place : List (Option ℕ)) (bit : Bit) (edge : Option ℕ) : Type 0 where
+  pub here : (j : ℕ) → edge ≡ Some j → (b : Bit) × (slice_get seen j ≡ Some (Imply bit b))
+  pub rest : (b : Bit) (j : ℕ) → slice_get seen j ≡ Some (Imply bit b) → IsOn place b ⊎ ((m : ℕ) × (edge ≡ Some m) × (j ≤ m))
+
+-- A path read backwards from a forbidden bit: it leads on from the bit at the next place, or is whole.
+abbrev pub Trail : List Form → List Reached → Option ℕ → List ℕ → Type 0
+Trail seen reached None path = IsPath seen (reverse path)
+Trail seen reached (Some p) path = (e : Reached) × (slice_get reached p ≡ Some e) × Leads seen e.bit (reverse path)

@@ -1,5 +1,3 @@
-ghost use Rattle.std.specs.Prelude.{◌≡◌};
-
 use oxml_base::{Items, NoMemory, Refusal};
 
 /// Why a list of clauses has no solution.
@@ -13,7 +11,10 @@ pub enum ModeErr {
 }
 
 impl From<NoMemory> for ModeErr {
-    ghost from_gives = { λ _ e. e ≡ ModeErr.NoMemory };
+    ghost use Rattle.std.specs.Prelude.{◌≡◌};
+    ghost use Rattle.mode_solver.specs.declared.error.ModeErr.TheVariants.{NoMemory};
+
+    ghost from_gives = { λ _ e. e ≡ NoMemory };
 
     fn from(_error: NoMemory) -> ModeErr {
         ModeErr::NoMemory

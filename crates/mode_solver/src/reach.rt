@@ -1,4 +1,5 @@
 ghost use Rattle.std.specs.Prelude.{◌≡◌, ℕ, ◌+◌, ◌<◌, ◌≤◌, ◌^◌, ◌↔◌, [], ◌∷◌, ◌++◌, length, map, None, Some, is_some, slice_get, slice_index_or, slice_set, IfOk, OnOk, IfSome, IfNone, IsTrue, replicate};
+ghost use Rattle.mode_lattice.specs.declared.clause.Bit.{Bit};
 ghost use Rattle.mode_lattice.specs.declared.clause.Form.TheVariants.{Imply, Force, Forbid};
 ghost use Rattle.mode_solver.specs.Forms.{AllBelow, IsPath};
 ghost use Rattle.mode_solver.specs.Graph.{entry, IsGraph, IsMarked};
@@ -64,6 +65,22 @@ impl Reach {
         Ok(())
     }
 
+    /// Marks the bit that this clause implies from one that is reached.
+    fn visit(&mut self, seen: &[Form], clause: u32) -> Result<(), NoMemory>
+        requires reach { IsReach seen.now self.old.place.items self.old.reached.items }
+        requires implies { (a b : Bit) × (slice_get seen.now clause ≡ Some (Imply a b)) × IsOn self.old.place.items a }
+        requires below { AllBelow (length self.old.place.items) seen.now }
+        requires few { length self.old.place.items < 2 ^ 32 }
+        ensures reach { OnOk result (IsReach seen.now self.new.place.items self.new.reached.items) }
+        ensures grows { OnOk result (Grows self.old.place.items self.old.reached.items self.new.place.items self.new.reached.items) }
+        ensures on { OnOk result ((a b : Bit) → slice_get seen.now clause ≡ Some (Imply a b) → IsOn self.new.place.items b) }
+    {
+        match seen[clause as usize] {
+            Form::Imply(_, to) => self.mark(to, clause),
+            _ => unreachable!(),
+        }
+    }
+
     /// Marks each bit that a clause implies from this one.
     pub fn follow(&mut self, seen: &[Form], implications: &Implications, bit: Bit) -> Result<(), NoMemory>
         requires graph { IsGraph seen.now implications.now.first.items implications.now.next.items }
@@ -78,9 +95,7 @@ impl Reach {
     {
         let mut edge = implications.first[bit.0 as usize];
         while let Some(clause) = edge {
-            if let Form::Imply(_, to) = seen[clause as usize] {
-                self.mark(to, clause)?;
-            }
+            self.visit(seen, clause)?;
             edge = implications.next[clause as usize];
         }
         Ok(())

@@ -1,0 +1,28 @@
+use Rattle.std.proofs.Common.{◌≡◌, ◌<◌, ◌≤◌, ◌+◌, ℕ, length, None, Some, Option, slice_get, sym, refl, ◌∙◌, ap, subst, is_some, false, arith}
+use Rattle.std.proofs.lemmas.List.{get_or_read}
+use Rattle.std.proofs.lemmas.Option.{slice_get_within, slice_get_read}
+use Rattle.mode_lattice.specs.declared.clause.Bit.{Bit}
+use Rattle.mode_solver.specs.Graph.{entry}
+use Rattle.mode_solver.specs.Reaching.{IsOn, IsDone}
+use Rattle.mode_solver.proofs.Lists.{entry_within, some_of, none_of}
+use Rattle.mode_solver.proofs.Reaches.{IsDone-grows, IsDone-one}
+use Rattle.mode_solver.proofs.reach.Reach.propagate.Goals as goal
+
+pub bounds-forbidden-bit : goal.bounds-forbidden-bit
+bounds-forbidden-bit c =
+    let within : c.loop-done.done < length c.loop-done.self.reached.items = ? in
+    let item = slice_get_read c.loop-done.self.reached.items (length c.loop-done.self.reached.items) c.loop-done.done c.index.result.now refl within c.index.ensures in
+    let has_place : c.index.result.now.bit.0 < length c.loop-done.self.place.items = entry_within _ _ _ (c.loop-done.invariant.reach.at _ _ item) in
+    omega (arith, c.requires.forbidden, c.loop-done.invariant.count)
+
+pub returns-then-is_some-clause-blocked : goal.returns-then-is_some-clause-blocked
+returns-then-is_some-clause-blocked c = let h = c.if-is_some in ?
+
+pub follow-requires-clause-on : goal.follow-requires-clause-on
+follow-requires-clause-on c = 
+    let within : c.loop-done.done < length c.loop-done.self.reached.items = ? in
+    let item = slice_get_read c.loop-done.self.reached.items (length c.loop-done.self.reached.items) c.loop-done.done c.index.result.now refl within c.index.ensures in
+    (c.loop-done.done, c.loop-done.invariant.reach.at _ _ item)
+
+pub loop-done-preserved : goal.loop-done-preserved
+loop-done-preserved c = ?
