@@ -1,6 +1,6 @@
 -- Reads of lists after a push, a write or a `take`.
 use Rattle.std.proofs.Common.{◌≡◌, ◌≢◌, ℕ, zero, suc, ◌+◌, ◌<◌, ◌≤◌, ◌⊎◌, inl, inr, List, [], ◌∷◌, ◌++◌, length, take, Option, Some, None, slice_get, slice_set, refl, sym, ap, ◌∙◌, subst, arith, is_some, true, false, get_or}
-use Rattle.std.proofs.lemmas.List.{get_or_append_left, get_or_push, get_or_past, get_or-set_same, get_or-set_other}
+use Rattle.std.proofs.lemmas.List.{get_or_append_left, get_or_push, get_or_past, get_or-set_same, get_or-set_other, take_all, length-take-le}
 use Rattle.std.proofs.lemmas.Option.{slice_get_within, slice_get-get_or, get_or_from_slice_get}
 use Rattle.std.proofs.lemmas.Bool.{cases_lt}
 use native.Mathlib.Numerals.{unary_clauses}
@@ -72,3 +72,10 @@ slice_get-is xs i d x within e = slice_get-get_or xs i d within ∙ ap Some e
 -- an item is what an index reads, whatever the default
 pub not_item : {X : Type 0} → (xs : List X) (i : ℕ) (d x : X) → (get_or xs i d ≡ x → ⊥) → slice_get xs i ≡ Some x → ⊥
 not_item xs i d x h e = h (get_or_from_slice_get xs i x d e)
+
+-- a list is its beginning and its last item
+pub split_last : {X : Type 0} → (xs : List X) (n : ℕ) (x : X) → length xs ≡ n + 1 → slice_get xs n ≡ Some x → xs ≡ take n xs ++ x ∷ []
+split_last xs n x count last = sym (take_all (n + 1) xs (omega arith)) ∙ take-last n xs x last
+
+pub length_before_last : {X : Type 0} → (xs : List X) (n : ℕ) → length xs ≡ n + 1 → length (take n xs) ≡ n
+length_before_last xs n count = length-take-le n xs (omega arith)

@@ -87,13 +87,17 @@ IsReach-mark seen place reached bit clause place' reached' r within cause (Now n
       rooms = omega (arith, r.rooms, room-set place bit.0 (length reached) within none, length_push reached new, length-set place bit.0 (Some (length reached)))
     })
 
+-- what stands at an earlier place stood there before
+pub Grows-earlier : (place : List (Option ℕ)) (reached : List Reached) (place' : List (Option ℕ)) (reached' : List Reached) → Grows place reached place' reached' → (p : ℕ) (e : Reached) → p < length reached → slice_get reached' p ≡ Some e → slice_get reached p ≡ Some e
+Grows-earlier place reached place' reached' g p e lt h =
+    elim ((slice_get_cases reached p).1)
+      [ inl there ↦ let same : slice_get reached' p ≡ Some there.0 = g.kept p there.0 there.2 in let item : slice_get reached p ≡ Some there.0 = there.2 in cc
+      | inr past ↦ absurd (omega (arith, past.0)) ]
+
 -- the places that are done stay so where more bits are reached
 pub IsDone-grows : (seen : List Form) (forbidden place : List (Option ℕ)) (reached : List Reached) (place' : List (Option ℕ)) (reached' : List Reached) (done : ℕ) → done ≤ length reached → Grows place reached place' reached' → IsDone seen forbidden place reached done → IsDone seen forbidden place' reached' done
 IsDone-grows seen forbidden place reached place' reached' done within g d =
-    let earlier : (p : ℕ) (e : Reached) → p < done → slice_get reached' p ≡ Some e → slice_get reached p ≡ Some e = λ p e lt h.
-      elim ((slice_get_cases reached p).1)
-        [ inl there ↦ let same : slice_get reached' p ≡ Some there.0 = g.kept p there.0 there.2 in let item : slice_get reached p ≡ Some there.0 = there.2 in cc
-        | inr past ↦ absurd (omega (arith, past.0)) ] in
+    let earlier : (p : ℕ) (e : Reached) → p < done → slice_get reached' p ≡ Some e → slice_get reached p ≡ Some e = λ p e lt h. Grows-earlier place reached place' reached' g p e (omega arith) h in
     record {
       forced = λ b j h. let w : IsOn place b = d.forced b j h in (w.0, g.on b w.0 w.1);
       implied = λ p e lt h b j i. let w : IsOn place b = d.implied p e lt (earlier p e lt h) b j i in (w.0, g.on b w.0 w.1);
