@@ -1,5 +1,5 @@
 -- Lists of forms, apart from the rules and spans of their clauses.
-use Rattle.std.specs.Prelude.{◌≡◌, ℕ, ◌<◌, Bool, List, [], ◌∷◌, Option, Some, slice_get}
+use Rattle.std.specs.Prelude.{◌≡◌, ℕ, Bool, List, [], ◌∷◌, Some, slice_get}
 use Rattle.mode_lattice.specs.declared.clause.Bit.{Bit}
 use Rattle.mode_lattice.specs.declared.clause.Form.{Form}
 use Rattle.mode_lattice.specs.declared.clause.Form.TheVariants.{Imply, Force, Forbid}

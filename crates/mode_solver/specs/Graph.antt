@@ -2,7 +2,7 @@
 use Rattle.std.specs.Prelude.{◌≡◌, ℕ, ◌<◌, ◌≤◌, List, length, Option, Some, None, slice_get, slice_index_or}
 use Rattle.mode_lattice.specs.declared.clause.Bit.{Bit}
 use Rattle.mode_lattice.specs.declared.clause.Form.{Form}
-use Rattle.mode_lattice.specs.declared.clause.Form.TheVariants.{Imply, Force, Forbid}
+use Rattle.mode_lattice.specs.declared.clause.Form.TheVariants.{Imply, Forbid}
 
 -- what a list of entries has at a number
 abbrev pub entry : List (Option ℕ) → ℕ → Option ℕ

@@ -2,7 +2,7 @@
 use Rattle.std.specs.Prelude.{◌≡◌, ℕ, ◌+◌, ◌<◌, ◌≤◌, List, [], ◌∷◌, ◌++◌, length, Option, Some, None, slice_get, slice_set, ◌⊎◌, reverse}
 use Rattle.mode_lattice.specs.declared.clause.Bit.{Bit}
 use Rattle.mode_lattice.specs.declared.clause.Form.{Form}
-use Rattle.mode_lattice.specs.declared.clause.Form.TheVariants.{Imply, Force, Forbid}
+use Rattle.mode_lattice.specs.declared.clause.Form.TheVariants.{Imply, Force}
 use Rattle.mode_solver.specs.declared.reach.Reached.{Reached}
 use Rattle.mode_solver.specs.Forms.{Leads, IsPath}
 use Rattle.mode_solver.specs.Graph.{entry}

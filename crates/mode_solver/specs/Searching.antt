@@ -1,5 +1,5 @@
 -- What a search keeps of the forms that were taken, and what its answer says.
-use Rattle.std.specs.Prelude.{◌≡◌, ℕ, ◌+◌, ◌<◌, Bool, true, false, List, length, Option, Some, slice_index_or, take}
+use Rattle.std.specs.Prelude.{◌≡◌, ℕ, ◌+◌, ◌<◌, Bool, true, false, List, length, slice_index_or, take}
 use Rattle.mode_lattice.specs.declared.clause.Bit.{Bit}
 use Rattle.mode_lattice.specs.declared.clause.Form.{Form}
 use Rattle.mode_solver.specs.declared.search.Search.{Search}
@@ -35,6 +35,12 @@ pub record IsLeastOf (bits : ℕ) (forms : List Form) (table : List Bool) : Type
   pub count : length table ≡ bits
   pub fits : Fits (λ b. slice_index_or table b false) forms
   pub least : (t : ℕ → Bool) → Fits t forms → (b : ℕ) → b < bits → slice_index_or table b false ≡ true → t b ≡ true
+
+-- The table has the bits that some table which fits the forms has, and fits them.
+pub record IsGreatestOf (bits : ℕ) (forms : List Form) (table : List Bool) : Type 0 where
+  pub count : length table ≡ bits
+  pub fits : Fits (λ b. slice_index_or table b false) forms
+  pub greatest : (t : ℕ → Bool) → Fits t forms → (b : ℕ) → b < bits → t b ≡ true → slice_index_or table b false ≡ true
 
 -- Form k ends the shortest beginning that no table fits, and the path shows it.
 pub record IsConflictOf (forms : List Form) (k : ℕ) (path : List ℕ) : Type 0 where

@@ -1,5 +1,4 @@
 -- Why a list of clauses is refused.
-use Rattle.std.specs.Prelude.{ℕ, List}
 use Rattle.mode_lattice.specs.declared.clause.ClauseList.{ClauseList}
 use Rattle.mode_lattice.specs.Clauses.{IsRefused}
 use Rattle.mode_solver.specs.declared.error.ModeErr.{ModeErr}

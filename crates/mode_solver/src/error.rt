@@ -6,7 +6,11 @@ pub enum ModeErr {
     /// No table obeys the clauses up to number `k`, which is the least such number. The refusal has
     /// the rule and the span of clause `k`. The path is the numbers of clauses, none above `k`, that
     /// lead from a forced bit by implications to a forbidden one.
-    Refused { k: u32, refusal: Refusal, path: Items<u32> },
+    Refused {
+        k: u32,
+        refusal: Refusal,
+        path: Items<u32>,
+    },
     NoMemory,
 }
 

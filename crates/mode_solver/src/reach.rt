@@ -82,7 +82,12 @@ impl Reach {
     }
 
     /// Marks each bit that a clause implies from this one.
-    pub fn follow(&mut self, seen: &[Form], implications: &Implications, bit: Bit) -> Result<(), NoMemory>
+    pub fn follow(
+        &mut self,
+        seen: &[Form],
+        implications: &Implications,
+        bit: Bit,
+    ) -> Result<(), NoMemory>
         requires graph { IsGraph seen.now implications.now.first.items implications.now.next.items }
         requires reach { IsReach seen.now self.old.place.items self.old.reached.items }
         requires on { IsOn self.old.place.items bit }
@@ -103,7 +108,13 @@ impl Reach {
 
     /// Follows the implications from each place that is not done, up to a bit that is forbidden, which is
     /// the answer.
-    pub fn propagate(&mut self, seen: &[Form], implications: &Implications, forbidden: &[Option<u32>], mut done: usize) -> Result<Option<Bit>, NoMemory>
+    pub fn propagate(
+        &mut self,
+        seen: &[Form],
+        implications: &Implications,
+        forbidden: &[Option<u32>],
+        mut done: usize,
+    ) -> Result<Option<Bit>, NoMemory>
         requires graph { IsGraph seen.now implications.now.first.items implications.now.next.items }
         requires reach { IsReach seen.now self.old.place.items self.old.reached.items }
         requires start { done ≤ length self.old.reached.items }
@@ -142,7 +153,13 @@ impl Reach {
     }
 
     /// The clauses from a forced bit by implications to this one, and then the clause that forbids it.
-    pub fn path(&self, alloc: Global, seen: &[Form], bit: Bit, forbidding: u32) -> Result<Items<u32>, NoMemory>
+    pub fn path(
+        &self,
+        alloc: Global,
+        seen: &[Form],
+        bit: Bit,
+        forbidding: u32,
+    ) -> Result<Items<u32>, NoMemory>
         requires reach { IsReach seen.now self.now.place.items self.now.reached.items }
         requires below { AllBelow (length self.now.place.items) seen.now }
         requires on { IsOn self.now.place.items bit }
@@ -165,6 +182,11 @@ impl Reach {
     pub fn table(&self, alloc: Global) -> Result<Vec<bool>, NoMemory>
         ensures { IfOk result (λ t. t.items ≡ map is_some self.now.place.items) }
     {
-        Ok(self.place.iter().map(|place| place.is_some()).collect(alloc)?)
+        Ok(
+            self.place
+                .iter()
+                .map(|place| place.is_some())
+                .collect(alloc)?,
+        )
     }
 }

@@ -42,7 +42,13 @@ impl Search {
 
     /// Takes the last of these forms, an implication between these bits. The answer is a bit that must be
     /// true and is forbidden.
-    fn imply(&mut self, seen: &[Form], from: Bit, to: Bit, clause: u32) -> Result<Option<Bit>, NoMemory>
+    fn imply(
+        &mut self,
+        seen: &[Form],
+        from: Bit,
+        to: Bit,
+        clause: u32,
+    ) -> Result<Option<Bit>, NoMemory>
         requires before { IsComplete (take clause seen.now) self.old }
         requires last { slice_get seen.now clause ≡ Some (Imply from to) }
         requires count { length seen.now ≡ clause + 1 }
@@ -103,7 +109,8 @@ impl Search {
         ensures all { IfOk result (λ r. IfNone r (IsComplete seen.now self.new)) }
         ensures blocked { IfOk result (λ r. IfSome r (IsBlocked seen.now self.new)) }
     {
-        self.reach.propagate(seen, &self.implications, self.forbidden.as_slice(), done)
+        self.reach
+            .propagate(seen, &self.implications, self.forbidden.as_slice(), done)
     }
 
     /// Takes the last of these forms. The answer is a bit that must be true and is forbidden.

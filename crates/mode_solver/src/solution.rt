@@ -1,5 +1,10 @@
-ghost use Rattle.std.specs.Prelude.{◌≡◌, ◌<◌, ◌^◌, length, map, not, IfOk, IfErr};
+ghost use Rattle.std.specs.Prelude.{◌≡◌, ℕ, ◌<◌, ◌^◌, Bool, length, map, not, slice_get, Some, IfOk, IfErr};
+ghost use Rattle.mode_lattice.specs.declared.clause.Clause.{Clause};
 ghost use Rattle.mode_lattice.specs.Clauses.{IsClosed, IsLeast, IsGreatest};
+ghost use Rattle.oxml_base.specs.declared.refusal.Refusal.{Refusal};
+ghost use Rattle.mode_solver.specs.declared.error.ModeErr.TheVariants.{Refused};
+ghost use Rattle.mode_solver.specs.Forms.{Fits, AllBelow};
+ghost use Rattle.mode_solver.specs.Searching.{IsGreatestOf};
 ghost use Rattle.mode_solver.specs.Solving.{IsCause};
 
 use crate::error::ModeErr;
@@ -29,7 +34,10 @@ pub fn solve(alloc: Global, c: &ClauseList) -> Result<Solved, ModeErr>
         Outcome::Conflict { last, path } => Err(refused(list, last, path)),
         Outcome::Least(least) => {
             let greatest = greatest(alloc, c.bits, forms.as_slice())?;
-            Ok(Solved { least: table(least), greatest: table(greatest) })
+            Ok(Solved {
+                least: table(least),
+                greatest: table(greatest),
+            })
         }
     }
 }
@@ -48,8 +56,10 @@ fn table(bits: Vec<bool>) -> Table
     }
 }
 
+/// The refusal by clause `k`.
 fn refused(list: &[Clause], k: u32, path: Items<u32>) -> ModeErr
     requires { k < length list.now }
+    ensures { (clause : Clause) × (slice_get list.now k ≡ Some clause) × (result ≡ Refused k (record { rule = clause.rule; span = clause.span }) path) }
 {
     let clause = &list[k as usize];
     let refusal = Refusal {
@@ -62,10 +72,20 @@ fn refused(list: &[Clause], k: u32, path: Items<u32>) -> ModeErr
 /// The greatest of the tables that fit the forms: the opposite of the least of those that fit the turned
 /// forms.
 fn greatest(alloc: Global, bits: u32, forms: &[Form]) -> Result<Vec<bool>, NoMemory>
+    requires below { AllBelow bits forms.now }
+    requires short { length forms.now < 2 ^ 32 }
+    requires some { (t : ℕ → Bool) × Fits t forms.now }
+    ensures { IfOk result (λ v. IsGreatestOf bits forms.now v.items) }
 {
     let turned = turn_all(alloc, forms)?;
     match search_all(alloc, bits, turned.as_slice())? {
-        Outcome::Least(least) => Ok(least.iter().map(|bit| !*bit).collect(alloc)?),
+        Outcome::Least(least) => opposite(alloc, least.as_slice()),
         Outcome::Conflict { .. } => unreachable!(),
     }
+}
+
+fn opposite(alloc: Global, table: &[bool]) -> Result<Vec<bool>, NoMemory>
+    ensures { IfOk result (λ v. v.items ≡ map not table.now) }
+{
+    Ok(table.iter().map(|bit| !*bit).collect(alloc)?)
 }

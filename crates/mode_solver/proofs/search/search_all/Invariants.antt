@@ -4,6 +4,6 @@ use Rattle.mode_solver.proofs.search.search_all.Given as goal
 
 abbrev pub invariant-loop-number : goal.invariant-loop-number
 invariant-loop-number l = record {
-    complete : IsComplete (take l.number l.forms) l.state;
-    count : length l.state.reach.place.items ≡ l.fn.bits
-  }
+  complete : IsComplete (take l.number l.forms) l.state;
+  count : length l.state.reach.place.items ≡ l.fn.bits;
+}

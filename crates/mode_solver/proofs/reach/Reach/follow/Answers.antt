@@ -1,9 +1,6 @@
-use Rattle.std.proofs.Common.{◌≡◌, ◌<◌, ◌^◌, length, None, Some, slice_get, sym, ◌∙◌, subst, arith, Option, ℕ}
+use Rattle.std.proofs.Common.{◌≡◌, ◌<◌, length, None, Some, subst, arith, Option, ℕ}
 use Rattle.std.proofs.lemmas.List.{get_or_read}
 use Rattle.std.proofs.lemmas.Option.{slice_get_within}
-use Rattle.mode_lattice.specs.declared.clause.Bit.{Bit}
-use Rattle.mode_lattice.specs.declared.clause.Form.TheVariants.{Imply}
-use Rattle.mode_solver.specs.Forms.{AllBelow}
 use Rattle.mode_solver.specs.Graph.{entry}
 use Rattle.mode_solver.specs.Reaching.{IsWalk, rank}
 use Rattle.mode_solver.proofs.Lists.{entry_within}
@@ -19,7 +16,7 @@ loop-edge-init c =
     record {
       reach = c.requires.reach;
       grows = Grows-refl _ _;
-      walk = rw read (IsWalk-start _ _ _ _ _ c.requires.graph)
+      walk = rw read (IsWalk-start _ _ _ _ _ c.requires.graph);
     }
 
 pub visit-requires-clause-reach : goal.visit-requires-clause-reach
@@ -65,7 +62,7 @@ loop-edge-preserved c =
     record {
       reach = c.in_ok-visit.ensures.reach;
       grows = Grows-trans c.loop-edge.invariant.grows c.in_ok-visit.ensures.grows;
-      walk = rw read (IsWalk-next _ _ _ _ _ _ _ c.requires.graph c.in_ok-visit.ensures.grows.on c.in_ok-visit.ensures.on walk)
+      walk = rw read (IsWalk-next _ _ _ _ _ _ _ c.requires.graph c.in_ok-visit.ensures.grows.on c.in_ok-visit.ensures.on walk);
     }
 
 pub returns-clause-reach : goal.returns-clause-reach

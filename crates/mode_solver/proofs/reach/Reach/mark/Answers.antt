@@ -1,4 +1,4 @@
-use Rattle.std.proofs.Common.{◌≡◌, refl, None, Some, is_some, true, ◌∙◌, sym}
+use Rattle.std.proofs.Common.{◌≡◌, refl, None, ◌∙◌, sym}
 use Rattle.std.proofs.lemmas.List.{get_or_read}
 use Rattle.mode_solver.specs.Graph.{entry}
 use Rattle.mode_solver.specs.Reaching.{Before}

@@ -1,8 +1,8 @@
-use Rattle.std.proofs.Common.{◌≡◌, ◌<◌, ◌++◌, ◌∷◌, [], ℕ, List, length, None, Some, Option, slice_get, reverse, sym, refl, ◌∙◌, subst, arith}
+use Rattle.std.proofs.Common.{◌≡◌, ◌<◌, ℕ, List, length, Some, Option, slice_get, reverse, sym, refl, subst}
 use Rattle.std.proofs.lemmas.Option.{slice_get_within, slice_get_read}
 use Rattle.mode_solver.specs.declared.reach.Reached.{Reached}
 use Rattle.mode_solver.specs.Forms.{Leads}
-use Rattle.mode_solver.specs.Reaching.{Trail, Cause, rank}
+use Rattle.mode_solver.specs.Reaching.{Trail, rank}
 use Rattle.mode_solver.proofs.Reaches.{cause_within}
 use Rattle.mode_solver.proofs.Walks.{Trail-back}
 use Rattle.mode_solver.proofs.reach.Reach.path.Goals as goal

@@ -1,9 +1,6 @@
-use Rattle.std.proofs.Common.{◌≡◌, ◌<◌, ◌≤◌, ◌+◌, ℕ, length, None, Some, Option, slice_get, sym, refl, ◌∙◌, ap, subst, is_some, false, arith}
-use Rattle.std.proofs.lemmas.List.{get_or_read}
-use Rattle.std.proofs.lemmas.Option.{slice_get_within, slice_get_read}
-use Rattle.mode_lattice.specs.declared.clause.Bit.{Bit}
+use Rattle.std.proofs.Common.{◌<◌, length, sym, refl, ◌∙◌, arith}
+use Rattle.std.proofs.lemmas.Option.{slice_get_read}
 use Rattle.mode_solver.specs.Graph.{entry}
-use Rattle.mode_solver.specs.Reaching.{IsOn, IsDone}
 use Rattle.mode_solver.proofs.Lists.{entry_within, some_of, none_of}
 use Rattle.mode_solver.proofs.Reaches.{IsDone-grows, IsDone-one}
 use Rattle.mode_solver.proofs.reach.Reach.propagate.Goals as goal
@@ -22,7 +19,7 @@ returns-then-is_some-clause-blocked c =
     ((c.loop-done.done, c.loop-done.invariant.reach.at _ _ item), some_of (entry c.args.forbidden.now c.index.result.now.bit.0) (sym c.if-is_some.ensures))
 
 pub follow-requires-clause-on : goal.follow-requires-clause-on
-follow-requires-clause-on c = 
+follow-requires-clause-on c =
     let within : c.loop-done.done < length c.loop-done.self.reached.items = omega arith in
     let item = slice_get_read c.loop-done.self.reached.items (length c.loop-done.self.reached.items) c.loop-done.done c.index.result.now refl within c.index.ensures in
     (c.loop-done.done, c.loop-done.invariant.reach.at _ _ item)
@@ -37,5 +34,5 @@ loop-done-preserved c =
       reach = c.in_ok-follow.ensures.reach;
       start = omega (arith, grows.longer);
       done = IsDone-one _ _ _ _ _ _ (IsDone-grows _ _ _ _ _ _ _ c.loop-done.invariant.start grows c.loop-done.invariant.done) (grows.kept _ _ item) free c.in_ok-follow.ensures.implied;
-      count = grows.count ∙ c.loop-done.invariant.count
+      count = grows.count ∙ c.loop-done.invariant.count;
     }

@@ -1,8 +1,7 @@
-use Rattle.std.proofs.Common.{◌≡◌, ◌<◌, length, Some, None, slice_get, get_or, ◌∙◌, sym, ap, refl, arith}
+use Rattle.std.proofs.Common.{◌≡◌, ◌<◌, length, None, ◌∙◌, ap, refl, arith}
 use Rattle.std.proofs.lemmas.List.{get_or_read}
-use Rattle.std.proofs.lemmas.Option.{slice_get_within}
 use Rattle.mode_lattice.specs.declared.clause.Bit.{Bit}
-use Rattle.mode_lattice.specs.declared.clause.Form.TheVariants.{Imply, Force}
+use Rattle.mode_lattice.specs.declared.clause.Form.TheVariants.{Imply}
 use Rattle.mode_solver.specs.Graph.{entry}
 use Rattle.mode_solver.proofs.Lists.{slice_get-is, not_item}
 use Rattle.mode_solver.proofs.reach.Reach.source.Goals as goal
@@ -30,5 +29,5 @@ returns-in_default c =
     let zero_bit : Bit = record { 0 = 0 } in
     record {
       implies = λ a b h. absurd (not_item c.args.seen.now c.args.clause (Imply zero_bit zero_bit) _ (c.in_default.not-Imply a b) h);
-      forces = λ b h. refl
+      forces = λ b h. refl;
     }

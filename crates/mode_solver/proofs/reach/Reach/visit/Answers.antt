@@ -1,9 +1,9 @@
-use Rattle.std.proofs.Common.{◌≡◌, ◌<◌, length, Some, slice_get, get_or}
+use Rattle.std.proofs.Common.{◌≡◌, Some, slice_get}
 use Rattle.std.proofs.lemmas.Option.{slice_get_within}
 use Rattle.std.proofs.lemmas.Result.{on_ok_weaker}
 use Rattle.mode_lattice.specs.declared.clause.Bit.{Bit}
 use Rattle.mode_lattice.specs.declared.clause.Form.TheVariants.{Imply}
-use Rattle.mode_solver.specs.Reaching.{IsOn, Cause, Marks}
+use Rattle.mode_solver.specs.Reaching.{IsOn, Marks}
 use Rattle.mode_solver.proofs.Lists.{slice_get-is, not_item}
 use Rattle.mode_solver.proofs.Reaches.{IsReach-mark, Cause-imply, Marks-grows, Marks-on}
 use Rattle.mode_solver.proofs.reach.Reach.visit.Goals as goal
@@ -36,6 +36,6 @@ returns-clause-on c =
     let within = slice_get_within _ _ _ c.requires.implies.2 in
     let form = slice_get-is c.args.seen.now c.args.clause _ _ within c.in-Imply.is in
     let on : Marks c.args.self.now.place.items c.args.self.now.reached.items c.in-Imply.to c.args.clause c.mark.new.self.place.items c.mark.new.self.reached.items → (a b : Bit) → slice_get c.args.seen.now c.args.clause ≡ Some (Imply a b) → IsOn c.mark.new.self.place.items b = λ marks a b h.
-      let target : c.in-Imply.to ≡ b = cc in
-      rw (← target) (Marks-on _ _ _ _ _ _ (c.requires.below.each _ _ form).1 marks) in
+    let target : c.in-Imply.to ≡ b = cc in
+    rw (← target) (Marks-on _ _ _ _ _ _ (c.requires.below.each _ _ form).1 marks) in
     on_ok_weaker _ on c.mark.ensures

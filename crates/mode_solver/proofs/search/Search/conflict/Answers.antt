@@ -1,4 +1,4 @@
-use Rattle.std.proofs.Common.{◌≡◌, ◌<◌, ℕ, length, None, Some, Option, slice_get, sym, refl, ◌∙◌, arith}
+use Rattle.std.proofs.Common.{◌<◌, length, arith}
 use Rattle.mode_solver.proofs.Lists.{entry_within}
 use Rattle.mode_solver.proofs.search.Search.conflict.Goals as goal
 

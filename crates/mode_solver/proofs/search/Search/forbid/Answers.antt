@@ -1,9 +1,7 @@
-use Rattle.std.proofs.Common.{◌≡◌, ◌<◌, ◌+◌, ℕ, ◌++◌, ◌∷◌, [], length, None, Some, Option, List, slice_get, slice_set, take, sym, refl, ◌∙◌, ap, subst, arith}
+use Rattle.std.proofs.Common.{◌≡◌, None, Some, List, take, sym, refl, ◌∙◌, subst, arith}
 use Rattle.std.proofs.lemmas.List.{get_or_read}
 use Rattle.std.specs.Vec.{with_item}
-use Rattle.mode_lattice.specs.declared.clause.Bit.{Bit}
 use Rattle.mode_lattice.specs.declared.clause.Form.{Form}
-use Rattle.mode_lattice.specs.declared.clause.Form.TheVariants.{Forbid}
 use Rattle.mode_solver.specs.declared.search.Search.{Search}
 use Rattle.mode_solver.specs.Graph.{entry}
 use Rattle.mode_solver.specs.Searching.{IsComplete, IsBlocked}

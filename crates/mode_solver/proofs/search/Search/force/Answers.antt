@@ -1,7 +1,5 @@
-use Rattle.std.proofs.Common.{◌≡◌, ◌<◌, ◌+◌, ℕ, ◌++◌, ◌∷◌, [], length, None, Some, Option, List, slice_get, slice_set, take, sym, refl, ◌∙◌, ap, subst, arith}
-use Rattle.mode_lattice.specs.declared.clause.Bit.{Bit}
+use Rattle.std.proofs.Common.{◌≡◌, length, List, take, sym, refl, subst, arith}
 use Rattle.mode_lattice.specs.declared.clause.Form.{Form}
-use Rattle.mode_lattice.specs.declared.clause.Form.TheVariants.{Force}
 use Rattle.mode_solver.specs.declared.search.Search.{Search}
 use Rattle.mode_solver.specs.Searching.{IsSearch}
 use Rattle.mode_solver.proofs.Lists.{split_last, length_before_last}
