@@ -7,6 +7,8 @@ mod implications;
 mod reach;
 mod search;
 mod solution;
+#[cfg(test)]
+mod tests;
 mod turn;
 
 pub use error::ModeErr;
