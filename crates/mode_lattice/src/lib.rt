@@ -2,7 +2,15 @@
 #![tactic(auto)]
 
 mod clause;
+mod lattice;
+mod locality;
+mod mode;
 mod table;
+#[cfg(test)]
+mod tests;
 
 pub use clause::{Bit, Clause, ClauseList, Form};
+pub use lattice::Lattice;
+pub use locality::{boundaries, exclave, inwards, outwards};
+pub use mode::Mode;
 pub use table::{Solved, Table};

@@ -7,7 +7,8 @@ use Rattle.mode_lattice.specs.declared.clause.Bit.{Bit}
 use Rattle.mode_lattice.specs.declared.clause.Form.{Form}
 use Rattle.mode_lattice.specs.declared.clause.Form.TheVariants.{Imply, Forbid}
 use Rattle.mode_solver.specs.Graph.{entry, IsGraph, IsMarked}
-use Rattle.mode_solver.proofs.Lists.{slice_get-push_at, slice_get-append_left, slice_get-push_cases, entry-push_left, entry-push_at, entry-set_same, entry-set_other, same_bit}
+use Rattle.mode_lattice.proofs.Lists.{slice_get-push_at, slice_get-append_left, slice_get-push_cases}
+use Rattle.mode_solver.proofs.Lists.{entry-push_left, entry-push_at, entry-set_same, entry-set_other, same_bit}
 
 -- The next form is an implication: the first one of its bit is this, and each other one is as before.
 imply-first_is : (seen : List Form) (first next : List (Option ℕ)) (a b : Bit) → IsGraph seen first next → a.0 < length first → (c : Bit) (j : ℕ) → entry (slice_set first a.0 (Some (length seen))) c.0 ≡ Some j → (d : Bit) × (slice_get (seen ++ Imply a b ∷ []) j ≡ Some (Imply c d))

@@ -7,22 +7,6 @@ use native.Mathlib.Numerals.{unary_clauses}
 use Rattle.mode_lattice.specs.declared.clause.Bit.{Bit}
 use Rattle.mode_solver.specs.Graph.{entry}
 
-pub slice_get-push_at : {X : Type 0} → (xs : List X) (x : X) → slice_get (xs ++ x ∷ []) (length xs) ≡ Some x
-slice_get-push_at [] x = refl
-slice_get-push_at (y ∷ ys) x = slice_get-push_at ys x
-
-pub slice_get-append_left : {X : Type 0} → (xs ys : List X) (i : ℕ) (x : X) → slice_get xs i ≡ Some x → slice_get (xs ++ ys) i ≡ Some x
-slice_get-append_left [] ys i x e = let no_item : ⊥ = cc in absurd no_item
-slice_get-append_left (y ∷ xs) ys zero x e = e
-slice_get-append_left (y ∷ xs) ys (suc i) x e = slice_get-append_left xs ys i x e
-
--- what a list has at a place after a push
-pub slice_get-push_cases : {X : Type 0} → (xs : List X) (y : X) (i : ℕ) (x : X) → slice_get (xs ++ y ∷ []) i ≡ Some x → (slice_get xs i ≡ Some x) ⊎ ((i ≡ length xs) × (y ≡ x))
-slice_get-push_cases [] y zero x e = inr (refl, cc)
-slice_get-push_cases [] y (suc i) x e = absurd cc
-slice_get-push_cases (z ∷ xs) y zero x e = inl e
-slice_get-push_cases (z ∷ xs) y (suc i) x e = elim (slice_get-push_cases xs y i x e) [ inl h ↦ inl h | inr h ↦ inr (ap suc h.0, h.1) ]
-
 -- an entry that is there stands within the list
 pub entry_within : (xs : List (Option ℕ)) (i v : ℕ) → entry xs i ≡ Some v → i < length xs
 entry_within xs i v e = elim (cases_lt i (length xs)) [ inl h ↦ h | inr h ↦ let n : entry xs i ≡ None = get_or_past xs i None h in absurd cc ]
@@ -44,12 +28,6 @@ pub same_bit : (a b : Bit) → a.0 ≡ b.0 → a ≡ b
 same_bit a b e = let make : ℕ → Bit = λ n. record { 0 = n } in ap make e
 
 -- the beginnings of a list
-pub slice_get-take : {X : Type 0} → (n : ℕ) (xs : List X) (i : ℕ) (x : X) → slice_get (take n xs) i ≡ Some x → slice_get xs i ≡ Some x
-slice_get-take zero xs i x e = absurd cc
-slice_get-take (suc n) [] i x e = e
-slice_get-take (suc n) (y ∷ xs) zero x e = e
-slice_get-take (suc n) (y ∷ xs) (suc i) x e = slice_get-take n xs i x e
-
 pub take-last : {X : Type 0} → (n : ℕ) (xs : List X) (x : X) → slice_get xs n ≡ Some x → take (n + 1) xs ≡ take n xs ++ x ∷ []
 take-last zero [] x e = absurd cc
 take-last zero (y ∷ xs) x e = let h : y ≡ x = cc in ap (λ z. z ∷ []) h

@@ -9,7 +9,8 @@ use Rattle.mode_lattice.specs.declared.clause.Form.TheVariants.{Imply}
 use Rattle.mode_solver.specs.declared.reach.Reached.{Reached}
 use Rattle.mode_solver.specs.Graph.{entry}
 use Rattle.mode_solver.specs.Reaching.{room, IsOn, Cause, IsReach, Grows, Marks, Before, Now, IsDone}
-use Rattle.mode_solver.proofs.Lists.{slice_get-push_at, slice_get-append_left, slice_get-push_cases, entry-set_same, entry-set_other, same_bit}
+use Rattle.mode_lattice.proofs.Lists.{slice_get-push_at, slice_get-append_left, slice_get-push_cases}
+use Rattle.mode_solver.proofs.Lists.{entry-set_same, entry-set_other, same_bit}
 
 -- a bit that gets a place takes one room
 pub room-set : (place : List (Option ℕ)) (i p : ℕ) → i < length place → entry place i ≡ None → room (slice_set place i (Some p)) + 1 ≡ room place

@@ -11,7 +11,8 @@ use Rattle.mode_solver.specs.Graph.{entry}
 use Rattle.mode_solver.specs.Searching.{IsSearch, IsComplete, IsBlocked}
 use Rattle.mode_solver.proofs.Graphs.{IsGraph-imply, IsGraph-other, IsMarked-forbid, IsMarked-other}
 use Rattle.mode_solver.specs.Reaching.{room, IsOn, IsReach, Grows, Marks, IsDone}
-use Rattle.mode_solver.proofs.Lists.{slice_get-push_at, slice_get-push_cases, entry-set_same, entry-set_other}
+use Rattle.mode_lattice.proofs.Lists.{slice_get-push_at, slice_get-push_cases}
+use Rattle.mode_solver.proofs.Lists.{entry-set_same, entry-set_other}
 use Rattle.mode_solver.proofs.Reaches.{Grows-refl, Grows-earlier, Marks-grows, Marks-on, Cause-imply, IsReach-more, IsReach-mark, IsDone-grows}
 
 -- an entry is there or not

@@ -12,7 +12,8 @@ use Rattle.mode_solver.specs.Forms.{Fits, AllBelow}
 use Rattle.mode_solver.specs.Graph.{entry}
 use Rattle.mode_solver.specs.Reaching.{IsOn, IsReach}
 use Rattle.mode_solver.specs.Searching.{IsComplete, IsLeastOf}
-use Rattle.mode_solver.proofs.Lists.{slice_get-take, some_of}
+use Rattle.mode_lattice.proofs.Lists.{slice_get-take}
+use Rattle.mode_solver.proofs.Lists.{some_of}
 
 pub AllBelow-take : (bits n : ℕ) (forms : List Form) → AllBelow bits forms → AllBelow bits (take n forms)
 AllBelow-take bits n forms below = record { each = λ i f h. below.each i f (slice_get-take n forms i f h) }

@@ -7,7 +7,7 @@ use Rattle.mode_lattice.specs.declared.clause.Form.TheVariants.{Imply, Force, Fo
 use Rattle.mode_lattice.specs.Clauses.{Holds, IsBelow}
 use Rattle.mode_solver.specs.Forms.{Fits, AllBelow, Leads, IsPath, turned}
 use Rattle.mode_solver.specs.Searching.{IsLeastOf, IsGreatestOf}
-use Rattle.mode_solver.proofs.Lists.{slice_get-take}
+use Rattle.mode_lattice.proofs.Lists.{slice_get-take}
 
 -- the opposite of a value
 not-true : (b : Bool) → not b ≡ true → b ≡ false
