@@ -18,9 +18,11 @@ pub Obeys-right : (t : ℕ → Bool) (xs ys : List Clause) → Obeys t (xs ++ ys
 Obeys-right t xs ys f = record { each = λ i c h. f.each (length xs + i) c (slice_get-append_right xs ys i ∙ h) }
 
 pub Obeys-push : (t : ℕ → Bool) (xs : List Clause) (c : Clause) → Obeys t xs → Holds t c.form → Obeys t (xs ++ c ∷ [])
-Obeys-push t xs c f holds = record { each = λ i d h.
-    let P : Clause → Type 0 = λ x. Holds t x.form in
-    elim (slice_get-push_cases xs c i d h) [ inl old ↦ f.each i d old | inr new ↦ subst P new.1 holds ] }
+Obeys-push t xs c f holds = record {
+  each = λ i d h.
+      let P : Clause → Type 0 = λ x. Holds t x.form in
+      elim (slice_get-push_cases xs c i d h) [ inl old ↦ f.each i d old | inr new ↦ subst P new.1 holds ];
+}
 
 pub Obeys-take : (t : ℕ → Bool) (n : ℕ) (xs : List Clause) → Obeys t xs → Obeys t (take n xs)
 Obeys-take t n xs f = record { each = λ i c h. f.each i c (slice_get-take n xs i c h) }
@@ -29,6 +31,8 @@ pub IsClosed-nil : (bits : ℕ) → IsClosed (record { bits = bits; list = [] })
 IsClosed-nil bits = record { each = λ i c h. let no_item : ⊥ = cc in absurd no_item }
 
 pub IsClosed-push : (bits : ℕ) (xs : List Clause) (c : Clause) → IsClosed (record { bits = bits; list = xs }) → IsBelow bits c.form → IsClosed (record { bits = bits; list = xs ++ c ∷ [] })
-IsClosed-push bits xs c closed below = record { each = λ i d h.
-    let P : Clause → Type 0 = λ x. IsBelow bits x.form in
-    elim (slice_get-push_cases xs c i d h) [ inl old ↦ closed.each i d old | inr new ↦ subst P new.1 below ] }
+IsClosed-push bits xs c closed below = record {
+  each = λ i d h.
+      let P : Clause → Type 0 = λ x. IsBelow bits x.form in
+      elim (slice_get-push_cases xs c i d h) [ inl old ↦ closed.each i d old | inr new ↦ subst P new.1 below ];
+}

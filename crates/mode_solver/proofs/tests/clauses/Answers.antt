@@ -15,5 +15,5 @@ loop-word-preserved c =
     let below : IsBelow c.args.bits c.in_ok-form.form = subst P c.in_ok-form.ensures.ok_part c.form.ensures in
     rw c.in_ok-push.ensures.ok (record {
       closed = IsClosed-push c.args.bits c.loop-word.list _ c.loop-word.invariant.closed below;
-      short = omega (arith, length_push {X = Clause}, c.in_ok-try_from.ensures.0, c.len.ensures)
+      short = omega (arith, length_push {X = Clause}, c.in_ok-try_from.ensures.0, c.len.ensures);
     })
