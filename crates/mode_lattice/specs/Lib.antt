@@ -1,0 +1,5 @@
+pub mod Clauses
+pub mod Lattices
+pub mod Ranked
+pub mod Modes
+pub mod ModeLattice
