@@ -1,20 +1,20 @@
 -- A text literal of a part is one of the whole text, and only a quote begins a token of the kind Text.
-use Rattle.std.proofs.Common.{◌≡◌, ◌≢◌, ℕ, zero, suc, ◌+◌, ◌<◌, ◌≤◌, Bool, true, false, cond, eqb, ltb, List, [], ◌∷◌, length, take, get_or, Option, Some, None, ◌⊎◌, inl, inr, ℤ, refl, sym, subst, ap, ◌∙◌, arith}
+use Rattle.std.proofs.Common.{◌≡◌, ◌≢◌, ℕ, zero, suc, ◌+◌, ◌<◌, ◌≤◌, Bool, true, false, cond, eqb, List, [], ◌∷◌, length, take, Option, Some, None, ◌⊎◌, inl, inr, ℤ, refl, sym, subst, ap, ◌∙◌, arith}
 use Rattle.std.specs.Option.{option_and_then}
-use Rattle.std.specs.Char.{digit_value, is_ascii_digit}
-use Rattle.std.specs.Prelude.{slice_range, nat_eq, not, ◌&&◌}
+use Rattle.std.specs.Char.{is_ascii_digit}
+use Rattle.std.specs.Prelude.{slice_range, nat_eq}
 use Rattle.std.specs.Cmp.Lexicographic.{pointwise}
 use Rattle.std.proofs.lemmas.Bool.Decides.{nat_tests}
 use Rattle.std.proofs.lemmas.List.{length-take}
 use Rattle.oxml_base.specs.declared.refusal.Refusal.{Refusal}
 use Rattle.oxml_base.specs.declared.rule.Rule.TheVariants.{OutsideAlphabet}
-use Rattle.ml_lexer.specs.Bytes.{byte, class, is_one_of, begins_lower, run_end}
+use Rattle.ml_lexer.specs.Bytes.{byte, class, run_end}
 use Rattle.ml_lexer.specs.Words.{words, signs, place_in}
 use Rattle.ml_lexer.specs.Numbers.{with_digit, number}
 use Rattle.ml_lexer.specs.Literals.{fixed, by_number, numbered, letter, escape_by, escape, in_escape, in_text_by, in_text, character}
-use Rattle.ml_lexer.specs.Tokens.{TextBy, TextFrom, closes, cut, wrong, goes_on, comment_piece, text_piece, Comes, blank, plain, fault, comment, quotation, Begins, look, look_by, named, sign_by, sign_to, number_by, number_to, is_pair, is_lower_name, variable_to, quote_by, name_to, bracket, other, token, refusal, IsSound, IsTextToken, IsLiteral}
+use Rattle.ml_lexer.specs.Tokens.{TextBy, TextFrom, closes, goes_on, comment_piece, text_piece, Comes, blank, plain, fault, comment, quotation, Begins, look, look_by, named, sign_by, sign_to, number_by, is_pair, is_lower_name, quote_by, token, refusal, IsSound}
 use Rattle.ml_lexer.specs.declared.token.TokenKind.{TokenKind}
-use Rattle.ml_lexer.specs.declared.token.TokenKind.TheVariants.{Lower, TypeVar, Text, Word, Sign}
+use Rattle.ml_lexer.specs.declared.token.TokenKind.TheVariants.{Lower, TypeVar, Text, Sign}
 use Rattle.ml_lexer.specs.declared.bytes.Class.{Class}
 use Rattle.ml_lexer.specs.declared.bytes.Class.TheVariants.{Blank, SmallLetter, CapitalLetter, Digit, Quote, DoubleQuote, Bracket, Mark, Other}
 use Rattle.ml_lexer.specs.declared.bytes.Run.TheVariants.{Name, Number, Operator}
@@ -25,7 +25,7 @@ use Rattle.ml_lexer.specs.declared.literals.InText.TheVariants.{Cut, Closes, Wro
 use Rattle.ml_lexer.specs.declared.literals.TextEnd.{TextEnd}
 use Rattle.ml_lexer.specs.declared.literals.TextEnd.TheVariants.{ClosedAt, BadAt, Unclosed}
 use Rattle.ml_lexer.specs.declared.pieces.Look.{Look}
-use Rattle.ml_lexer.specs.declared.pieces.Look.TheVariants.{Nothing, Space, Plain, Fault, OpensComment, OpensText}
+use Rattle.ml_lexer.specs.declared.pieces.Look.TheVariants.{Nothing, Plain, Fault, OpensComment}
 use Rattle.ml_lexer.specs.declared.pieces.Piece.{Piece}
 use Rattle.ml_lexer.specs.declared.pieces.Piece.TheVariants.{Skips, Takes, Faults}
 

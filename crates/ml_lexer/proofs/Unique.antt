@@ -1,17 +1,16 @@
 -- One division, one fault, one literal.
-use Rattle.std.proofs.Common.{◌≡◌, ◌≢◌, ℕ, ◌+◌, ◌<◌, ◌≤◌, Bool, true, false, cond, eqb, List, [], ◌∷◌, ◌++◌, length, take, get_or, refl, sym, subst, ap, ◌∙◌, arith, length-append, append-nil}
+use Rattle.std.proofs.Common.{◌≡◌, ℕ, ◌≤◌, Bool, cond, eqb, List, [], ◌++◌, length, take, refl, subst, ap, ◌∙◌, arith, length-append, append-nil}
 use Rattle.std.proofs.lemmas.List.{get_or_past, length-take}
 use Rattle.oxml_base.specs.declared.refusal.Refusal.{Refusal}
 use Rattle.oxml_base.specs.declared.span.Span.{Span}
 use Rattle.ml_lexer.specs.declared.token.Token.{Token}
 use Rattle.ml_lexer.specs.declared.token.TokenKind.{TokenKind}
-use Rattle.ml_lexer.specs.declared.pieces.Look.{Look}
 use Rattle.ml_lexer.specs.declared.pieces.Look.TheVariants.{Nothing}
 use Rattle.ml_lexer.specs.declared.pieces.Piece.{Piece}
 use Rattle.ml_lexer.specs.declared.pieces.Piece.TheVariants.{Skips, Takes, Faults}
 use Rattle.ml_lexer.specs.Bytes.{byte, class}
 use Rattle.ml_lexer.specs.Tokens.{Comes, Begins, look, look_by, Divides, nothing, skips, takes, Tokens, IsBad, StartsWith, IsLiteral}
-use Rattle.ml_lexer.proofs.Divisions.{same_piece, same_text, Stops, GoesOn, goes_on_from}
+use Rattle.ml_lexer.proofs.Divisions.{same_piece, same_text, Stops, goes_on_from}
 
 none_comes : {text : List ℕ} {at : ℕ} {p : Piece} (P : Type 0) → Comes text at Nothing p → P
 none_comes P h = elim h [ ]

@@ -2,7 +2,6 @@
 use Rattle.std.specs.Prelude.{◌≡◌, ℕ, ◌≤◌, List, length}
 use Rattle.oxml_base.specs.declared.span.Span.{Span}
 use Rattle.oxml_base.specs.declared.refusal.Limit.TheVariants as Limits
-use Rattle.oxml_base.specs.declared.refusal.Limit.{Limit}
 use Rattle.ml_lexer.specs.declared.token.Token.{Token}
 use Rattle.ml_lexer.specs.declared.errors.LexErr.{LexErr}
 use Rattle.ml_lexer.specs.declared.errors.LexErr.TheVariants.{Refused, Limit as LimitPassed, NoMemory}

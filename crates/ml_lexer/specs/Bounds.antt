@@ -1,7 +1,5 @@
 -- How far the answers of the scanning functions reach.
-use Rattle.std.specs.Prelude.{ℕ, ◌+◌, ◌<◌, ◌≤◌, ◌^◌}
-use Rattle.oxml_base.specs.declared.refusal.Refusal.{Refusal}
-use Rattle.ml_lexer.specs.declared.token.TokenKind.{TokenKind}
+use Rattle.std.specs.Prelude.{ℕ, ◌+◌, ◌<◌, ◌≤◌}
 use Rattle.ml_lexer.specs.declared.literals.Coded.{Coded}
 use Rattle.ml_lexer.specs.declared.literals.Coded.TheVariants.{Absent, Bad, Stands}
 use Rattle.ml_lexer.specs.declared.literals.InText.{InText}

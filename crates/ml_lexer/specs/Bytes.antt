@@ -1,5 +1,5 @@
 -- The bytes of a text, and the classes of the bytes that tokens begin with.
-use Rattle.std.specs.Prelude.{ℕ, ◌+◌, Bool, ◌||◌, ◌==◌, List, [], ◌∷◌, codes, if◌then◌else◌, slice_index_or, slice_range, drop}
+use Rattle.std.specs.Prelude.{ℕ, ◌+◌, Bool, ◌||◌, ◌==◌, List, [], ◌∷◌, codes, if◌then◌else◌, slice_index_or, drop}
 use Rattle.std.specs.List.{list_any, prefix_len}
 use Rattle.std.specs.Char.{is_ascii_lowercase, is_ascii_uppercase, is_ascii_digit, is_ascii_alphanumeric}
 use Rattle.ml_lexer.specs.declared.bytes.Class.{Class}

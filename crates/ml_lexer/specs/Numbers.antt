@@ -1,5 +1,5 @@
 -- The numbers that literals and escapes write.
-use Rattle.std.specs.Prelude.{ℕ, zero, suc, ◌+◌, ◌*◌, ◌^◌, Bool, ◌||◌, ◌&&◌, ◌==◌, List, [], ◌∷◌, drop, Option, Some, None, ℤ, pos, negsuc, if◌then◌else◌, nat_lt, ◌-◌}
+use Rattle.std.specs.Prelude.{ℕ, ◌+◌, ◌*◌, ◌^◌, Bool, ◌||◌, ◌&&◌, ◌==◌, List, [], ◌∷◌, drop, Option, Some, None, ℤ, pos, negsuc, if◌then◌else◌, nat_lt, ◌-◌}
 use Rattle.std.specs.Option.{option_and_then, option_map}
 use Rattle.std.specs.Char.{digit_value}
 use Rattle.ml_lexer.specs.Bytes.{byte}

@@ -27,8 +27,8 @@ pub enum Run {
     Operator,
 }
 
-#[tactic(auto, unfolding(crate::specs::Bytes::byte))]
 /// The byte at a place; 256, which is no byte, behind the end.
+#[tactic(auto, unfolding(crate::specs::Bytes::byte))]
 pub fn byte_at(text: &[u8], at: usize) -> u16
     ensures { result ≡ byte text.now at }
 {
@@ -38,8 +38,8 @@ pub fn byte_at(text: &[u8], at: usize) -> u16
     }
 }
 
-#[tactic(auto, unfolding(crate::specs::Bytes::byte))]
 /// Whether a byte stands at a place.
+#[tactic(auto, unfolding(crate::specs::Bytes::byte))]
 pub fn stands(text: &[u8], at: usize, b: u8) -> bool
     ensures value { result ≡ (byte text.now at == b) }
     ensures within { OnTrue result (at < length text.now) }
@@ -107,8 +107,8 @@ fn belongs(run: Run, b: u8) -> bool
     }
 }
 
-#[tactic(auto, unfolding(crate::specs::Bytes::run_end))]
 /// Where the longest run from a place on ends.
+#[tactic(auto, unfolding(crate::specs::Bytes::run_end))]
 pub fn run_end(run: Run, text: &[u8], at: usize) -> usize
     requires { at ≤ length text.now }
     ensures end { result ≡ run_end run text.now at }

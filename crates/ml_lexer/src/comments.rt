@@ -18,8 +18,8 @@ pub enum InComment {
     Passes(usize),
 }
 
-#[tactic(auto, unfolding(crate::specs::Literals::text_end))]
 /// Where a text literal in a comment ends, from a place behind its first quote on.
+#[tactic(auto, unfolding(crate::specs::Literals::text_end))]
 fn text_end(text: &[u8], at: usize) -> Option<usize>
     requires { at ≤ length text.now }
     ensures end { result ≡ text_end false at (drop at text.now) }
@@ -74,9 +74,9 @@ fn passes_character(text: &[u8], at: usize) -> InComment
     }
 }
 
-#[tactic(auto, unfolding(crate::specs::Literals::in_comment, crate::specs::Bytes::byte))]
 /// What stands at a place in a comment. `texts_end` is false once a quote was seen that begins no
 /// text.
+#[tactic(auto, unfolding(crate::specs::Literals::in_comment, crate::specs::Bytes::byte))]
 fn in_comment_at(text: &[u8], at: usize, texts_end: &mut bool) -> InComment
     requires place { at ≤ length text.now }
     requires none { texts_end.old ≡ false → HasNoText (drop at text.now) }

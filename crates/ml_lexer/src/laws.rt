@@ -1,11 +1,13 @@
 //! What holds of the definition of tokens: a part of a text divides into one list of tokens, or has
 //! one first fault, and never both.
 
-ghost use Rattle.std.specs.Prelude.{◌≡◌, ◌≤◌, ℕ, List, length, MatchBool};
+ghost use Rattle.std.specs.Prelude.{◌≡◌, ◌≤◌, ℕ, Bool, List, length, MatchBool};
 ghost use Rattle.oxml_base.specs.declared.refusal.Refusal.{Refusal};
 ghost use Rattle.oxml_base.specs.declared.span.Span.{Span as Part};
 ghost use Rattle.ml_lexer.specs.declared.token.Token.{Token};
-ghost use Rattle.ml_lexer.specs.Tokens.{Tokens, IsBad, StartsWith, IsLiteral};
+ghost use Rattle.ml_lexer.specs.declared.pieces.Piece.{Piece as Beginning};
+ghost use Rattle.ml_lexer.specs.declared.pieces.Piece.TheVariants.{Faults};
+ghost use Rattle.ml_lexer.specs.Tokens.{Begins, Tokens, IsBad, StartsWith, IsLiteral};
 
 use crate::lexer::is_minus;
 use crate::pieces::{Piece, piece_at};
@@ -19,6 +21,11 @@ pub fn at_most_one_list()
 /// A part that divides has no fault.
 pub fn tokens_or_fault()
     ensures { (text : List ℕ) (part : Part) (ts us : List Token) (r : Refusal) → Tokens text part ts → IsBad text part us r → ⊥ }
+{}
+
+/// Where a fault stands, nothing else begins.
+pub fn nothing_beside_a_fault()
+    ensures { (text : List ℕ) (after_minus : Bool) (at : ℕ) (r : Refusal) (p : Beginning) → Begins text after_minus at (Faults r) → Begins text after_minus at p → p ≡ Faults r }
 {}
 
 /// A part has one first fault at most, and one list of tokens stands before it.

@@ -43,8 +43,8 @@ pub enum TextEnd {
     Unclosed,
 }
 
-#[tactic(auto, unfolding(crate::specs::Bytes::byte))]
 /// A value of few digits with one more from the text.
+#[tactic(auto, unfolding(crate::specs::Bytes::byte))]
 fn digit_at(base: u32, value: u32, text: &[u8], at: usize) -> Option<u32>
     requires low { 2 ≤ base }
     requires high { base ≤ 16 }
@@ -136,8 +136,8 @@ fn numbered(text: &[u8], at: usize, c: u8) -> Coded
     }
 }
 
-#[tactic(auto, unfolding(crate::specs::Literals::escape, crate::specs::Bytes::byte))]
 /// The escape whose backslash stands at a place.
+#[tactic(auto, unfolding(crate::specs::Literals::escape, crate::specs::Bytes::byte))]
 fn escape_at(text: &[u8], at: usize) -> Coded
     requires { at < length text.now }
     ensures escape { result ≡ escape text.now at }
@@ -166,8 +166,8 @@ fn quoted(text: &[u8], at: usize, coded: Coded) -> Coded
     }
 }
 
-#[tactic(auto, unfolding(crate::specs::Literals::character, crate::specs::Bytes::byte))]
 /// The character literal whose first quote stands at a place.
+#[tactic(auto, unfolding(crate::specs::Literals::character, crate::specs::Bytes::byte))]
 pub fn character_at(text: &[u8], at: usize) -> Coded
     requires { at < length text.now }
     ensures character { result ≡ character text.now at }
@@ -195,8 +195,8 @@ fn in_escape(coded: Coded) -> InText
     }
 }
 
-#[tactic(auto, unfolding(crate::specs::Literals::in_text, crate::specs::Bytes::byte))]
 /// What stands at a place in a text literal.
+#[tactic(auto, unfolding(crate::specs::Literals::in_text, crate::specs::Bytes::byte))]
 fn in_text_at(text: &[u8], at: usize) -> InText
     requires { at ≤ length text.now }
     ensures here { result ≡ in_text text.now at }

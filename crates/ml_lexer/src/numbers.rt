@@ -19,9 +19,9 @@ fn with_digit(base: u32, value: u64, c: u8) -> Option<u64>
     if value < 1 << 63 { Some(value) } else { None }
 }
 
-#[tactic(auto, unfolding(crate::specs::Numbers::digits))]
 /// The value of a run of digits with marks `_` between; none where a byte is no digit of the base,
 /// or the value has more than 63 bits.
+#[tactic(auto, unfolding(crate::specs::Numbers::digits))]
 fn digits(base: u32, run: &[u8]) -> Option<u64>
     requires low { 2 ≤ base }
     requires high { base ≤ 36 }
@@ -66,8 +66,8 @@ fn wrapped(value: u64) -> i64
     }
 }
 
-#[tactic(auto, unfolding(crate::specs::Bytes::byte))]
 /// The value of a number with a prefix for its base.
+#[tactic(auto, unfolding(crate::specs::Bytes::byte))]
 fn based(base: u32, run: &[u8]) -> Option<i64>
     requires low { 2 ≤ base }
     requires high { base ≤ 36 }
@@ -92,8 +92,8 @@ fn decimal(after_minus: bool, value: u64) -> Option<i64>
     }
 }
 
-#[tactic(auto, unfolding(crate::specs::Numbers::number))]
 /// The value of a number literal, if the run is one.
+#[tactic(auto, unfolding(crate::specs::Numbers::number))]
 pub fn number(after_minus: bool, run: &[u8]) -> Option<i64>
     ensures { result ≡ number after_minus run.now }
 {

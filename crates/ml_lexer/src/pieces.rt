@@ -103,8 +103,8 @@ fn is_pair(first: u16, second: u16) -> bool
     }
 }
 
-#[tactic(auto, unfolding(crate::specs::Bytes::byte))]
 /// Whether a run is a lower name, which is more than `_`.
+#[tactic(auto, unfolding(crate::specs::Bytes::byte))]
 fn is_lower_name(run: &[u8]) -> bool
     ensures { result ≡ is_lower_name run.now }
 {
@@ -143,8 +143,8 @@ fn quote_at(text: &[u8], at: usize) -> Look
     }
 }
 
-#[tactic(auto, unfolding(crate::specs::Bytes::byte))]
 /// What `(` at a place begins: a comment where `*` stands behind it.
+#[tactic(auto, unfolding(crate::specs::Bytes::byte))]
 fn bracket_at(text: &[u8], at: usize) -> Look
     requires place { at < length text.now }
     requires small { length text.now < 2 ^ 32 }
@@ -158,8 +158,8 @@ fn bracket_at(text: &[u8], at: usize) -> Look
     }
 }
 
-#[tactic(auto, unfolding(crate::specs::Bytes::byte))]
 /// The separator of one byte or two at a place; a fault where there is none.
+#[tactic(auto, unfolding(crate::specs::Bytes::byte))]
 fn other_at(text: &[u8], at: usize) -> Look
     requires place { at < length text.now }
     requires small { length text.now < 2 ^ 32 }
@@ -196,8 +196,8 @@ fn look_by(class: Class, text: &[u8], at: usize, after_minus: bool) -> Look
     }
 }
 
-#[tactic(auto, unfolding(crate::specs::Tokens::look, crate::specs::Bytes::byte))]
 /// What a place of a text begins.
+#[tactic(auto, unfolding(crate::specs::Tokens::look, crate::specs::Bytes::byte))]
 fn look_at(text: &[u8], at: usize, after_minus: bool) -> Look
     requires place { at < length text.now }
     requires small { length text.now < 2 ^ 32 }

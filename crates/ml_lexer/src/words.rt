@@ -86,8 +86,8 @@ fn is_same(t: &[u8], text: &[u8]) -> bool
     t == text
 }
 
-#[tactic(auto, unfolding(crate::specs::Words::place_in))]
 /// The place of a text in a list.
+#[tactic(auto, unfolding(crate::specs::Words::place_in))]
 fn place_in(texts: &[&str], text: &[u8]) -> Option<u8>
     requires { length texts.now < 256 }
     ensures { result ≡ place_in (map (λ t. t.now) texts.now) text.now }
@@ -100,8 +100,8 @@ fn place_in(texts: &[&str], text: &[u8]) -> Option<u8>
     None
 }
 
-#[tactic(auto, unfolding(crate::specs::Words::place_in))]
 /// The number of a word of the language.
+#[tactic(auto, unfolding(crate::specs::Words::place_in))]
 pub fn word_number(name: &[u8]) -> Option<u8>
     ensures { result ≡ place_in words name.now }
 {

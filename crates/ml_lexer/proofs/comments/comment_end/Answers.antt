@@ -1,8 +1,7 @@
-use Rattle.std.proofs.Common.{◌≡◌, ◌+◌, ◌-◌, ◌≤◌, ℕ, suc, zero, Option, Some, None, drop, sym, subst, arith}
-use Rattle.ml_lexer.specs.Literals.{in_comment, HasNoText}
-use Rattle.ml_lexer.specs.Tokens.{CommentBy, CommentFrom, over, ends, leaves, opens, passes}
+use Rattle.std.proofs.Common.{◌≡◌, ◌+◌, ◌-◌, ℕ, suc, Some, None, sym, subst, arith}
+use Rattle.ml_lexer.specs.Tokens.{CommentBy, over, ends, leaves, opens, passes}
 use Rattle.ml_lexer.specs.declared.comments.InComment.{InComment}
-use Rattle.ml_lexer.specs.declared.comments.InComment.TheVariants.{Over, Opens, Leaves, Passes}
+use Rattle.ml_lexer.specs.declared.comments.InComment.TheVariants.{Leaves}
 use Rattle.ml_lexer.proofs.NoText.{HasNoText-later}
 use Rattle.ml_lexer.proofs.comments.comment_end.Goals as goal
 

@@ -1,5 +1,5 @@
-use Rattle.std.proofs.Common.{◌≡◌, ◌+◌, refl, drop, false, ap, sym}
-use Rattle.ml_lexer.specs.Literals.{text_end, passes_text}
+use Rattle.std.proofs.Common.{ap, sym}
+use Rattle.ml_lexer.specs.Literals.{passes_text}
 use Rattle.ml_lexer.proofs.NoText.{quote_alone, HasNoText-at_quote}
 use Rattle.ml_lexer.proofs.comments.passes_text.Goals as goal
 

@@ -1,7 +1,6 @@
-use Rattle.std.proofs.Common.{◌≡◌, ℕ, ◌≤◌, Bool, false, List, [], ◌∷◌, ◌++◌, length, take, sym, subst, arith}
+use Rattle.std.proofs.Common.{Bool, false, [], ◌∷◌, ◌++◌, take, sym, subst, arith}
 use Rattle.std.proofs.lemmas.List.{length-take}
-use Rattle.ml_lexer.specs.declared.token.Token.{Token}
-use Rattle.ml_lexer.specs.Tokens.{Divides, nothing, token, is_minus}
+use Rattle.ml_lexer.specs.Tokens.{Divides, nothing, token}
 use Rattle.ml_lexer.proofs.Divisions.{then_skips, then_takes}
 use Rattle.ml_lexer.proofs.laws.has_tokens.Goals as goal
 

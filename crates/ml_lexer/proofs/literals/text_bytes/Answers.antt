@@ -1,5 +1,4 @@
-use Rattle.std.proofs.Common.{◌≡◌, ◌+◌, ◌≤◌, ℕ, List, [], ◌∷◌, ◌++◌, sym, subst, arith, append_assoc, refl, ◌∙◌, ap}
-use Rattle.ml_lexer.specs.Literals.{in_text}
+use Rattle.std.proofs.Common.{◌≡◌, ◌+◌, ℕ, List, [], ◌∷◌, ◌++◌, sym, subst, append_assoc, ◌∙◌, ap}
 use Rattle.ml_lexer.specs.Tokens.{TextBy, TextFrom, goes_on}
 use Rattle.ml_lexer.specs.declared.literals.InText.{InText}
 use Rattle.ml_lexer.specs.declared.literals.InText.TheVariants.{Byte}

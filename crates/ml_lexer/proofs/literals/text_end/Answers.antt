@@ -1,4 +1,4 @@
-use Rattle.std.proofs.Common.{◌≡◌, ◌+◌, ◌≤◌, ℕ, List, [], ◌∷◌, sym, subst, arith}
+use Rattle.std.proofs.Common.{◌≡◌, ◌+◌, ℕ, List, [], ◌∷◌, subst, arith}
 use Rattle.ml_lexer.specs.Literals.{in_text}
 use Rattle.ml_lexer.specs.Tokens.{TextBy, TextFrom, closes, cut, wrong, goes_on}
 use Rattle.ml_lexer.specs.declared.literals.InText.{InText}

@@ -1,4 +1,4 @@
-use Rattle.std.proofs.Common.{◌≡◌, ◌≤◌, ◌-◌, ℕ, List, length}
+use Rattle.std.proofs.Common.{◌≤◌, ◌-◌, ℕ, List, length}
 use Rattle.ml_lexer.specs.Tokens.{TextFrom}
 use Rattle.ml_lexer.specs.declared.literals.TextEnd.{TextEnd}
 use Rattle.ml_lexer.proofs.literals.text_end.Given as goal

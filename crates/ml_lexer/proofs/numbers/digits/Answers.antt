@@ -1,4 +1,4 @@
-use Rattle.std.proofs.Common.{◌≡◌, ◌<◌, ℕ, length, sym, ◌∙◌, arith}
+use Rattle.std.proofs.Common.{◌<◌, length, sym, ◌∙◌, arith}
 use Rattle.ml_lexer.proofs.Large.{digits-none_at}
 use Rattle.ml_lexer.proofs.numbers.digits.Goals as goal
 

@@ -1,10 +1,9 @@
-use Rattle.std.proofs.Common.{◌≡◌, ◌+◌, ℕ, Bool, List, Some, None, sym, subst, ap}
-use Rattle.ml_lexer.specs.Tokens.{look, Comes, Begins, CommentFrom, TextFrom, comment_piece, text_piece, blank, plain, fault, comment, quotation, refusal}
+use Rattle.std.proofs.Common.{◌≡◌, ◌+◌, ℕ, Bool, List, Some, None, sym, subst}
+use Rattle.ml_lexer.specs.Tokens.{look, Comes, Begins, comment_piece, text_piece, blank, plain, fault, comment, quotation, refusal}
 use Rattle.ml_lexer.specs.declared.pieces.Look.{Look}
 use Rattle.ml_lexer.specs.declared.pieces.Look.TheVariants.{Space, Plain, Fault, OpensComment, OpensText}
 use Rattle.ml_lexer.specs.declared.pieces.Piece.{Piece}
-use Rattle.ml_lexer.specs.declared.pieces.Piece.TheVariants.{Skips, Takes, Faults}
-use Rattle.ml_lexer.specs.declared.literals.TextEnd.{TextEnd}
+use Rattle.ml_lexer.specs.declared.pieces.Piece.TheVariants.{Faults}
 use Rattle.ml_lexer.specs.declared.literals.TextEnd.TheVariants.{ClosedAt, BadAt, Unclosed}
 use Rattle.oxml_base.specs.declared.rule.Rule.TheVariants.{OpenComment, OpenText, BadEscape}
 use Rattle.oxml_base.specs.declared.refusal.Refusal.{Refusal}
