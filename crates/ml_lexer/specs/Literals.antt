@@ -14,7 +14,8 @@ use Rattle.ml_lexer.specs.declared.comments.InComment.TheVariants.{Over, Opens, 
 -- the value of exactly so many digits from a place on, behind a value
 unfoldable pub fixed : ℕ → List ℕ → ℕ → ℕ → ℕ → Option ℕ
 fixed base text zero value at = Some value
-fixed base text (suc more) value at = option_and_then (λ v. fixed base text more v (at + 1)) (with_digit base value (byte text at))
+fixed base text (suc more) value at =
+    option_and_then (λ v. fixed base text more v (at + 1)) (with_digit base value (byte text at))
 
 -- an escape of so many bytes that names its byte by a number
 abbrev pub by_number : ℕ → Option ℕ → Coded
@@ -49,7 +50,9 @@ escape_by text at c None = numbered text at c
 
 -- the escape whose backslash stands at a place
 unfoldable pub escape : List ℕ → ℕ → Coded
-escape text at = if byte text (at + 1) == 256 then Absent else escape_by text at (byte text (at + 1)) (letter (byte text (at + 1)))
+escape text at =
+    if byte text (at + 1) == 256 then Absent
+    else escape_by text at (byte text (at + 1)) (letter (byte text (at + 1)))
 
 -- a byte between quotes: the closing quote stands behind it
 abbrev pub quoted : List ℕ → Coded → Coded

@@ -38,7 +38,8 @@ wrapped v = if nat_lt v (2 ^ 62) then pos v else negsuc (2 ^ 63 - 1 - v)
 -- the digits behind a prefix, of which the first is no mark
 abbrev pub based : ℕ → List ℕ → Option ℤ
 based base run =
-    if nat_lt (digit_value (byte run 2)) base then option_map wrapped (small (digits base 0 (drop 2 run))) else None
+    if nat_lt (digit_value (byte run 2)) base then option_map wrapped (small (digits base 0 (drop 2 run)))
+    else None
 
 -- a decimal value: below 2^62, or 2^62 itself behind a minus
 abbrev pub decimal : Bool → ℕ → Option ℤ

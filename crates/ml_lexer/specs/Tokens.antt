@@ -32,7 +32,7 @@ use Rattle.ml_lexer.specs.Literals.{character, in_text, in_comment}
 abbrev pub refusal : Rule → ℕ → ℕ → Refusal
 refusal rule from to = record { rule = rule; span = record { start = from; end = to } }
 
--- what a run of small letters is, by its place among the words; `_` alone (95) is a sign
+-- what a run of small letters is, by its place among the words; `_` alone (95) is the sign 12
 abbrev pub named : List ℕ → Option ℕ → TokenKind
 named run (Some n) = Word n
 named run None = if pointwise nat_eq run (95 ∷ []) then Sign 12 else Lower
@@ -75,7 +75,8 @@ quote_by text at Bad = Fault (refusal BadEscape (at + 1) (at + 3))
 quote_by text at (Stands b end) = Plain (Char b) end
 
 abbrev pub name_to : List ℕ → ℕ → ℕ → Look
-name_to text at end = Plain (named (slice_range text at end) (place_in words (slice_range text at end))) end
+name_to text at end =
+    Plain (named (slice_range text at end) (place_in words (slice_range text at end))) end
 
 -- `(` opens a comment where `*` (42) stands behind it
 abbrev pub bracket : List ℕ → ℕ → Look
@@ -83,7 +84,9 @@ bracket text at = if byte text (at + 1) == 42 then OpensComment else sign_to tex
 
 -- a separator of one byte or two, or a byte outside the alphabet
 abbrev pub other : List ℕ → ℕ → Look
-other text at = if is_pair (byte text at) (byte text (at + 1)) then sign_to text at (at + 2) else sign_to text at (at + 1)
+other text at =
+    if is_pair (byte text at) (byte text (at + 1)) then sign_to text at (at + 2)
+    else sign_to text at (at + 1)
 
 -- what a byte of a class begins: the longest token of its forms, a fault, a comment or a text
 abbrev pub look_by : Class → Bool → List ℕ → ℕ → Look
@@ -97,8 +100,11 @@ look_by Bracket after_minus text at = bracket text at
 look_by Mark after_minus text at = sign_to text at (run_end Operator text (at + 1))
 look_by Other after_minus text at = other text at
 
+-- what a place begins; nothing at the end of the text
 unfoldable pub look : Bool → List ℕ → ℕ → Look
-look after_minus text at = if byte text at == 256 then Nothing else look_by (class (byte text at)) after_minus text at
+look after_minus text at =
+    if byte text at == 256 then Nothing
+    else look_by (class (byte text at)) after_minus text at
 
 -- inside a text literal, at a place where this stands: the bytes that the literal stands for from there
 -- on, and its end; an open text has none, and a bad escape comes before it
@@ -106,7 +112,8 @@ pub data TextBy (text : List ℕ) : InText → ℕ → List ℕ → TextEnd → 
   closes : {at : ℕ} → TextBy text Closes at [] (ClosedAt (at + 1))
   cut : {at : ℕ} → TextBy text Cut at [] Unclosed
   wrong : {at : ℕ} → TextBy text Wrong at [] (BadAt at)
-  goes_on : {at b next : ℕ} {bytes : List ℕ} {e : TextEnd} → TextBy text (in_text text next) next bytes e → TextBy text (Byte b next) at (b ∷ bytes) e
+  goes_on : {at b next : ℕ} {bytes : List ℕ} {e : TextEnd} →
+      TextBy text (in_text text next) next bytes e → TextBy text (Byte b next) at (b ∷ bytes) e
 
 abbrev pub TextFrom : List ℕ → ℕ → List ℕ → TextEnd → Type 0
 TextFrom text at bytes e = TextBy text (in_text text at) at bytes e
@@ -116,9 +123,12 @@ TextFrom text at bytes e = TextBy text (in_text text at) at bytes e
 pub data CommentBy (text : List ℕ) : InComment → ℕ → ℕ → Option ℕ → Type 0 where
   over : {inner at : ℕ} → CommentBy text Over inner at None
   ends : {at : ℕ} → CommentBy text Leaves zero at (Some (at + 2))
-  leaves : {inner at : ℕ} {e : Option ℕ} → CommentBy text (in_comment text (at + 2)) inner (at + 2) e → CommentBy text Leaves (suc inner) at e
-  opens : {inner at : ℕ} {e : Option ℕ} → CommentBy text (in_comment text (at + 2)) (inner + 1) (at + 2) e → CommentBy text Opens inner at e
-  passes : {inner at next : ℕ} {e : Option ℕ} → CommentBy text (in_comment text next) inner next e → CommentBy text (Passes next) inner at e
+  leaves : {inner at : ℕ} {e : Option ℕ} →
+      CommentBy text (in_comment text (at + 2)) inner (at + 2) e → CommentBy text Leaves (suc inner) at e
+  opens : {inner at : ℕ} {e : Option ℕ} →
+      CommentBy text (in_comment text (at + 2)) (inner + 1) (at + 2) e → CommentBy text Opens inner at e
+  passes : {inner at next : ℕ} {e : Option ℕ} →
+      CommentBy text (in_comment text next) inner next e → CommentBy text (Passes next) inner at e
 
 abbrev pub CommentFrom : List ℕ → ℕ → ℕ → Option ℕ → Type 0
 CommentFrom text inner at e = CommentBy text (in_comment text at) inner at e
@@ -139,13 +149,16 @@ pub data Comes (text : List ℕ) (at : ℕ) : Look → Piece → Type 0 where
   blank : Comes text at Space (Skips (at + 1))
   plain : {kind : TokenKind} {end : ℕ} → Comes text at (Plain kind end) (Takes kind end)
   fault : {r : Refusal} → Comes text at (Fault r) (Faults r)
-  comment : {e : Option ℕ} → CommentFrom text zero (at + 2) e → Comes text at OpensComment (comment_piece at e)
-  quotation : {bytes : List ℕ} {e : TextEnd} → TextFrom text (at + 1) bytes e → Comes text at OpensText (text_piece at e)
+  comment : {e : Option ℕ} →
+      CommentFrom text zero (at + 2) e → Comes text at OpensComment (comment_piece at e)
+  quotation : {bytes : List ℕ} {e : TextEnd} →
+      TextFrom text (at + 1) bytes e → Comes text at OpensText (text_piece at e)
 
 -- this blank, comment, token or fault begins at the place
 abbrev pub Begins : List ℕ → Bool → ℕ → Piece → Type 0
 Begins text after_minus at p = Comes text at (look after_minus text at) p
 
+-- the sign `-`, whose number is 14
 abbrev pub is_minus : TokenKind → Bool
 is_minus (Sign n) = n == 14
 is_minus _ = false
@@ -157,8 +170,11 @@ token kind from to = record { kind = kind; span = record { start = from; end = t
 -- say whether the last token before each place is a minus
 pub data Divides (text : List ℕ) : Bool → ℕ → List Token → Bool → ℕ → Type 0 where
   nothing : {m : Bool} {at : ℕ} → Divides text m at [] m at
-  skips : {m m' : Bool} {at next to : ℕ} {ts : List Token} → Begins text m at (Skips next) → Divides text m next ts m' to → Divides text m at ts m' to
-  takes : {m m' : Bool} {at next to : ℕ} {kind : TokenKind} {ts : List Token} → Begins text m at (Takes kind next) → Divides text (is_minus kind) next ts m' to → Divides text m at (token kind at next ∷ ts) m' to
+  skips : {m m' : Bool} {at next to : ℕ} {ts : List Token} →
+      Begins text m at (Skips next) → Divides text m next ts m' to → Divides text m at ts m' to
+  takes : {m m' : Bool} {at next to : ℕ} {kind : TokenKind} {ts : List Token} →
+      Begins text m at (Takes kind next) → Divides text (is_minus kind) next ts m' to →
+      Divides text m at (token kind at next ∷ ts) m' to
 
 -- the part divides into these tokens
 pub record Tokens (text : List ℕ) (part : Span) (tokens : List Token) : Type 0 where
