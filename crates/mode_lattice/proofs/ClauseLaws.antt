@@ -1,7 +1,6 @@
 -- When a table obeys lists of clauses that are put together, and when such a list is closed.
-use Rattle.std.proofs.Common.{◌≡◌, ℕ, ◌+◌, ◌⊎◌, inl, inr, Bool, List, [], ◌∷◌, ◌++◌, length, take, Some, slice_get, subst, ◌∙◌}
+use Rattle.std.proofs.Common.{ℕ, ◌+◌, inl, inr, Bool, List, [], ◌∷◌, ◌++◌, length, take, subst, ◌∙◌}
 use Rattle.mode_lattice.specs.declared.clause.Clause.{Clause}
-use Rattle.mode_lattice.specs.declared.clause.Form.{Form}
 use Rattle.mode_lattice.specs.Clauses.{Holds, Obeys, IsBelow, IsClosed}
 use Rattle.mode_lattice.proofs.Lists.{slice_get-append_left, slice_get-append_right, slice_get-append_cases, slice_get-push_cases, slice_get-take}
 

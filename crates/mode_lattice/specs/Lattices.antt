@@ -1,6 +1,5 @@
 -- Lattices, by an order that is a test and by the bounds of each two values.
-use Rattle.std.specs.Prelude.{◌≡◌, ◌≢◌, ℕ, ◌≤◌, ◌<◌, Bool, true, false, nat_le, cond, refl}
-use Rattle.std.proofs.Common.{arith, ◌⊎◌, inl, inr, sym, ◌∙◌}
+use Rattle.std.specs.Prelude.{◌≡◌, Bool, true}
 
 pub record IsOrder {A : Type 0} (leq : A → A → Bool) : Type 0 where
   pub reflexive : (a : A) → leq a a ≡ true

@@ -1,5 +1,5 @@
 -- The axes of a mode: their orders, and what a boundary makes of a locality.
-use Rattle.std.specs.Prelude.{◌≡◌, ℕ, Bool, true, false, nat_le, cond, Option, Some, None}
+use Rattle.std.specs.Prelude.{◌≡◌, ℕ, Bool, true, nat_le, cond, Option, Some, None}
 use Rattle.std.proofs.Common.{refl, arith}
 use Rattle.ml_tree.specs.declared.words.Loc.{Loc}
 use Rattle.ml_tree.specs.declared.words.Loc.TheVariants.{Global, Regional, Local}

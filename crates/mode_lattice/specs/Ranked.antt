@@ -1,8 +1,8 @@
 -- Values with distinct ranks are a lattice, ordered by rank.
-use Rattle.std.specs.Prelude.{◌≡◌, ℕ, ◌≤◌, ◌<◌, Bool, true, false, nat_le, cond}
-use Rattle.std.proofs.Common.{arith, ◌⊎◌, inl, inr, sym, ◌∙◌, refl}
+use Rattle.std.specs.Prelude.{◌≡◌, ℕ, ◌≤◌, ◌<◌, nat_le, cond}
+use Rattle.std.proofs.Common.{arith, ◌⊎◌, inl, inr, refl}
 use Rattle.std.proofs.lemmas.Bool.{cases_lt, le-leb, lt-leb, leb-true}
-use Rattle.mode_lattice.specs.Lattices.{IsOrder, IsJoin, IsMeet, IsLattice}
+use Rattle.mode_lattice.specs.Lattices.{IsLattice}
 
 join-is : {A : Type 0} (rank : A → ℕ) (a b : A) → ((rank a ≤ rank b) × (cond (nat_le (rank a) (rank b)) b a ≡ b)) ⊎ ((rank b < rank a) × (cond (nat_le (rank a) (rank b)) b a ≡ a))
 join-is rank a b = elim (cases_lt (rank b) (rank a)) [

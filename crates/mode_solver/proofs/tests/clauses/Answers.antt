@@ -1,8 +1,8 @@
-use Rattle.std.proofs.Common.{◌≡◌, ◌<◌, ◌^◌, ◌++◌, ◌∷◌, [], List, Option, Some, IfSome, length, subst, sym, arith}
+use Rattle.std.proofs.Common.{Option, IfSome, subst, arith}
 use Rattle.std.proofs.lemmas.List.{length_push}
 use Rattle.mode_lattice.specs.declared.clause.Clause.{Clause}
 use Rattle.mode_lattice.specs.declared.clause.Form.{Form}
-use Rattle.mode_lattice.specs.Clauses.{IsBelow, IsClosed}
+use Rattle.mode_lattice.specs.Clauses.{IsBelow}
 use Rattle.mode_lattice.proofs.ClauseLaws.{IsClosed-nil, IsClosed-push}
 use Rattle.mode_solver.proofs.tests.clauses.Goals as goal
 
