@@ -115,16 +115,14 @@ fn sources_are_compiled_or_refused(rt: HostRuntime) -> Result<(), Fail> {
     for source in refused {
         assert_eq!(rt; compile(rt.alloc(), source, SMALL).err(), Some(left_out));
     }
-    let long = vec![in rt.alloc(); b' '; 1_048_577]?;
     let limit = CompileErr::Limit(Limit::Bytes(1_048_577), None);
-    assert_eq!(rt;
-        compile(rt.alloc(), long.as_slice(), SMALL).err(),
-        Some(limit)
-    );
-    assert_eq!(rt;
-        compile(rt.alloc(), &long[..1_048_576], SMALL).err(),
-        Some(left_out)
-    );
+    for (length, error) in [(1_048_576, left_out), (1_048_577, limit)] {
+        let blank = vec![in rt.alloc(); b' '; length]?;
+        assert_eq!(rt;
+            compile(rt.alloc(), blank.as_slice(), SMALL).err(),
+            Some(error)
+        );
+    }
     Ok(())
 }
 
