@@ -129,12 +129,10 @@ fn sources_are_compiled_or_refused(rt: HostRuntime) -> Result<(), Fail> {
 #[test]
 fn a_changed_image_is_refused(rt: HostRuntime) -> Result<(), Fail> {
     let mut file = compile(rt.alloc(), HI, SMALL).expect(&rt, "an executable");
-    assert!(rt; file.len() > 100);
-    assert_eq!(rt; load(rt.alloc(), &file[..63]).err(), Some(ImageErr::Short));
-    assert_eq!(rt;
-        load(rt.alloc(), &file[..100]).err(),
-        Some(ImageErr::Segment(0))
-    );
+    for (length, error) in [(63, ImageErr::Short), (100, ImageErr::Segment(0))] {
+        let front = file.as_slice().get(..length).expect(&rt, "so many bytes");
+        assert_eq!(rt; load(rt.alloc(), front).err(), Some(error));
+    }
     let changes = [
         (0, 0, ImageErr::Magic),
         (4, 1, ImageErr::Kind),
