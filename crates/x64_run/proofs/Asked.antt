@@ -1,12 +1,12 @@
 -- A write that is asked lies below 2^47.
-use Rattle.std.proofs.Common.{ℕ, ◌+◌, ◌≤◌, ◌^◌, ◌≡◌, Bool, true, false, ◌&&◌, ◌||◌, ◌==◌, nat_le, nat_lt, List, Option, Some, None, refl, sym, ap, ◌∙◌, subst, arith, if◌then◌else◌, [], ◌∷◌, ◌*◌, ◌-◌, ◌%◌, length, ℤ, bit_and}
+use Rattle.std.proofs.Common.{ℕ, ◌+◌, ◌≤◌, ◌^◌, ◌≡◌, Bool, true, false, ◌&&◌, ◌||◌, ◌==◌, nat_le, nat_lt, List, Option, Some, None, refl, sym, ◌∙◌, subst, arith, if◌then◌else◌, [], ◌∷◌, ◌*◌, ◌-◌, ◌%◌}
 use Rattle.std.specs.Int.{w64, to_le_bytes, cast_unsigned}
 use Rattle.std.proofs.lemmas.Bool.Decides.{nat_tests}
 use Rattle.x64_table.specs.declared.cpu.Stepped.{Stepped}
 use Rattle.x64_table.specs.declared.cpu.Stepped.TheVariants.{Went, Asked, Exit, Fault}
 use Rattle.x64_table.specs.declared.instr.Instr.{Instr}
 use Rattle.x64_table.specs.declared.instr.Instr.TheVariants.{MovReg, MovImm, Load, Store, LoadByte, StoreByte, Lea, Arith, ArithImm, Test, Imul, Cqo, Neg, Idiv, ShiftImm, ShiftCl, Jump, Call, JumpIf, CallReg, JumpReg, Ret, Syscall}
-use Rattle.x64_table.specs.Machine.{Loaded, State, Next, address, arith as operate, ask, below, call, difference_64, divide, divided, do_row, done, enter, fault, fetched, is_range, jump, jump_if, past, put, put_unflagged, read_1, read_8, reg, return_to, shifted, sign, step_of, store, system, system_exit, system_write, tested, with, with_reg, written}
+use Rattle.x64_table.specs.Machine.{Loaded, State, Next, address, arith as operate, ask, call, difference_64, divide, divided, do_row, done, enter, fault, fetched, is_range, jump, jump_if, past, put, put_unflagged, read_1, read_8, reg, return_to, shifted, sign, step_of, store, system, system_exit, system_write, tested, with, with_reg, written}
 use Rattle.x64_table.proofs.Runs.{step_row}
 
 abbrev Within : Stepped → Type 0

@@ -1,15 +1,15 @@
 -- One step of a run, by what the machine told.
-use Rattle.std.proofs.Common.{ℕ, zero, suc, ◌+◌, ◌-◌, ◌≤◌, ◌<◌, ◌≡◌, ◌≢◌, List, [], ◌∷◌, ◌++◌, ℤ, pos, refl, sym, ap, ◌∙◌, subst, arith, append_assoc, append-nil, Option, Some, None, Result, Ok, Err, OnOk, OnErr, is_err, true, false}
+use Rattle.std.proofs.Common.{ℕ, suc, ◌+◌, ◌<◌, ◌≡◌, ◌≢◌, List, [], ◌∷◌, ◌++◌, ℤ, pos, refl, sym, ap, ◌∙◌, subst, arith, append_assoc, append-nil, Option, Some, None, Result, Ok, Err, OnOk, OnErr, is_err, true, false}
 use Rattle.std.proofs.lemmas.Bool.{false≢true}
 use Rattle.x64_table.specs.declared.cpu.Stepped.{Stepped}
 use Rattle.x64_table.specs.declared.cpu.Stepped.TheVariants.{Went, Asked}
 use Rattle.x64_table.specs.declared.cpu.Stepped.TheVariants as told
-use Rattle.x64_table.specs.Machine.{State, Next, step_of, answered}
-use Rattle.x64_table.specs.Kernel.{Ending, Going, Exited, Faulted, Run, next, after, go_on, ask_next, answer_with, run_from, put_bytes, taken}
+use Rattle.x64_table.specs.Machine.{State, Next, step_of}
+use Rattle.x64_table.specs.Kernel.{Ending, Going, Exited, Faulted, Run, next, after, go_on, ask_next, answer_with, run_from}
 use Rattle.x64_table.proofs.Runs.{next_going, after_last, after_zero, IsOver, stays_over, Grows-more}
 use Rattle.x64_run.specs.declared.put.Put.{Put}
 use Rattle.x64_run.specs.declared.put.SimEnd.{SimEnd}
-use Rattle.x64_run.specs.declared.put.SimEnd.TheVariants.{Exit, More, Fault}
+use Rattle.x64_run.specs.declared.put.SimEnd.TheVariants.{Exit, Fault}
 use Rattle.x64_run.specs.Simulation.{pairs, end_of, PartlyAppended, first_or, rest_of, served, Serves, ServesPart, StandsAt, EndsWith, StepTold, Advances}
 
 pub next_is : (r : Run) (s t : State) (rest : List ℤ) (before old : List Put) (what : Stepped) → StandsAt r s rest before old → step_of s ≡ (what, t) → next r ≡ go_on r (what, t)

@@ -3,7 +3,8 @@
 
 mod put;
 mod simulating;
+#[cfg(test)]
+mod tests;
 
 pub use put::{Put, SimEnd};
 pub use simulating::simulate;
-

@@ -2,12 +2,10 @@ ghost use Rattle.std.specs.Prelude.{◌≡◌, ◌<◌, ◌≤◌, ◌+◌, ◌+
 ghost use Rattle.x64_table.specs.Kernel.{put_bytes, taken, after, run_from, start};
 ghost use Rattle.x64_run.specs.Simulation.{pairs, PartlyAppended, Serves, ServesPart, Advances, AdvancesPart, end_of};
 
-use std::alloc::Global;
-
-use oxml_base::NoMemory;
-use x64_table::{Image, Machine, Stepped};
-
 use crate::put::{Put, SimEnd};
+use oxml_base::NoMemory;
+use std::alloc::Global;
+use x64_table::{Image, Machine, Stepped};
 
 /// How many bytes the answer `n` to a write of `len` bytes takes.
 fn taken(n: i64, len: u64) -> u64
@@ -21,7 +19,13 @@ fn taken(n: i64, len: u64) -> u64
 }
 
 /// Appends the `n` bytes from `at` on, in order.
-fn put_bytes(machine: &Machine, channel: u8, at: u64, n: u64, out: &mut Vec<Put>) -> Result<(), NoMemory>
+fn put_bytes(
+    machine: &Machine,
+    channel: u8,
+    at: u64,
+    n: u64,
+    out: &mut Vec<Put>,
+) -> Result<(), NoMemory>
     requires { at + n < 2 ^ 64 }
     ensures ok { OnOk result (pairs out.new.items ≡ pairs out.old.items ++ put_bytes machine.now.segments channel at n) }
     ensures err { OnErr result (PartlyAppended out.old.items out.new.items (put_bytes machine.now.segments channel at n)) }
@@ -52,7 +56,15 @@ fn next_answer(answers: &[i64], used: &mut usize, len: u64) -> i64
 
 /// Answers a write that is asked: the bytes that the answer takes are appended, and the machine
 /// goes on.
-fn serve(machine: &mut Machine, answers: &[i64], used: &mut usize, out: &mut Vec<Put>, channel: u8, at: u64, len: u64) -> Result<(), NoMemory>
+fn serve(
+    machine: &mut Machine,
+    answers: &[i64],
+    used: &mut usize,
+    out: &mut Vec<Put>,
+    channel: u8,
+    at: u64,
+    len: u64,
+) -> Result<(), NoMemory>
     requires { at + len ≤ 2 ^ 47 }
     ensures ok { OnOk result (Serves machine.old (drop used.old answers.now) out.old.items machine.new (drop used.new answers.now) out.new.items channel at len) }
     ensures err { OnErr result (ServesPart machine.old (drop used.old answers.now) out.old.items out.new.items channel at len) }
