@@ -1,13 +1,14 @@
-// A library with one function.
+//! Unification: bindings of type variables, and one call that makes pairs of types equal. It gives
+//! most general solutions; where there is none it says whether even infinite types would not help.
 #![tactic(auto)]
 
-ghost use Rattle.std.specs.Prelude.{◌≡◌};
-ghost use Rattle.hm_unify.specs.Echo.{echo_of};
+mod bindings;
+mod bound;
+mod classes;
+mod closure;
+mod judge;
+mod measure;
+mod node;
+mod walk;
 
-// The `ensures` clause is the contract: what `echo` returns is `echo_of` of its argument, a definition
-// in `specs/Echo.antt`, which a caller's clause can cite too.
-pub fn echo(x: usize) -> usize
-    ensures { result ≡ echo_of x }
-{
-    x
-}
+pub use bindings::{Bindings, UnifyErr};
