@@ -89,3 +89,7 @@ take-end [] zero h = refl
 take-end [] (suc i) h = refl
 take-end (y ∷ xs) zero h = absurd cc
 take-end (y ∷ xs) (suc i) h = ap (λ l. y ∷ l) (take-end xs i h)
+
+pub trees-next : (d : TyId → Tree) (xs ys : List TyId) (i : ℕ) (x y : TyId) → slice_get xs i ≡ Some x → slice_get ys i ≡ Some y → trees d (take i xs) ≡ trees d (take i ys) → d x ≡ d y → trees d (take (i + 1) xs) ≡ trees d (take (i + 1) ys)
+trees-next d xs ys i x y p q h e =
+    ap (trees d) (take-next xs i x p) ∙ trees-snoc d (take i xs) x ∙ ap (λ ts. snoc ts (d x)) h ∙ ap (snoc (trees d (take i ys))) e ∙ sym (trees-snoc d (take i ys) y) ∙ sym (ap (trees d) (take-next ys i y q))

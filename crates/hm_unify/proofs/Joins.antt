@@ -10,7 +10,7 @@ use Rattle.hm_unify.specs.declared.classes.End.{End}
 use Rattle.hm_unify.specs.declared.classes.End.TheVariants.{Free, Built}
 use Rattle.hm_unify.specs.Solutions.{Bound, Pairs, node_at, IsSolution, Equates, IsIdOf}
 use Rattle.hm_unify.specs.Classes.{code, moved, joined}
-use Rattle.hm_unify.specs.Closing.{Naming, Respects, HasRoot, IsBuiltRoot, IsClosing}
+use Rattle.hm_unify.specs.Closing.{Naming, Respects, HasRoot, IsBuiltRoot, IsClosing, IsBuiltIn, DoesParts, ToDo, their_parts}
 use Rattle.hm_unify.proofs.Equations.{Equates-front, Equates-back, Equates-append}
 
 pub code-injective : (a b : End) → code a ≡ code b → a ≡ b
@@ -101,3 +101,10 @@ IsClosing-join nodes bound pairs name todo todo' u v from to k nu nv apart v_in 
     built_by x r x_in e (stays a b) =
         let is : name x ≡ Built r = sym b ∙ e in
         IsBuiltRoot-stays nodes name from to r (λ (z : Built r ≡ from). a (is ∙ z)) (k.built x r x_in is)
+
+pub their_parts-from : (nodes : List TyNode) (todo todo' : Pairs) (left right : End) (r s : ℕ) (n m : TyNode) → left ≡ Built r → right ≡ Built s → IsBuiltIn nodes left → slice_get nodes r ≡ Some n → slice_get nodes s ≡ Some m → head_of n ≡ head_of m → DoesParts todo todo' n m → ToDo nodes todo todo' left right
+their_parts-from nodes todo todo' left right r s n m lr rs b p q e d =
+    let c : IsBuiltIn nodes (Built r) = subst (IsBuiltIn nodes) lr b in
+    let same : c.0 ≡ n = (let o : Some c.0 ≡ Some n = sym c.2 ∙ p in cc) in
+    let h : head_of n ≡ Some c.1 = sym (ap head_of same) ∙ c.3 in
+    their_parts r s n m c.1 lr rs p q h (sym e ∙ h) d

@@ -1,5 +1,5 @@
 -- Classes that are being closed under equations.
-use Rattle.std.specs.Prelude.{◌≡◌, ℕ, zero, suc, ◌+◌, ◌<◌, ◌^◌, List, [], ◌∷◌, length, Option, Some, None, slice_get}
+use Rattle.std.specs.Prelude.{◌≡◌, ℕ, zero, suc, ◌+◌, ◌<◌, ◌^◌, List, [], ◌∷◌, length, Option, Some, None, slice_get, ◌⊎◌}
 use Rattle.ml_types.specs.declared.node.TyId.{TyId}
 use Rattle.ml_types.specs.declared.node.TyNode.{TyNode}
 use Rattle.ml_types.specs.Types.{Head, head_of, parts_of, Tree, Leaf, Node, trees}
@@ -7,7 +7,7 @@ use Rattle.hm_unify.specs.declared.classes.End.{End}
 use Rattle.hm_unify.specs.declared.classes.End.TheVariants.{Free, Built}
 use Rattle.hm_unify.specs.declared.classes.Classes.{Classes}
 use Rattle.hm_unify.specs.Solutions.{Bound, Pairs, node_at, link, number_at, IsSolution, Equates, IsIdOf}
-use Rattle.hm_unify.specs.Classes.{up, IsForest}
+use Rattle.hm_unify.specs.Classes.{up, IsForest, joined}
 
 -- the end of the bindings from an id, within so many steps
 unfoldable pub follow : List TyNode → Bound → ℕ → TyId → TyId
@@ -81,3 +81,42 @@ pub record IsClosure (nodes : List TyNode) (bound : Bound) (pairs : Pairs) (clas
 
 abbrev pub SomeClosure : List TyNode → Bound → Classes → Pairs → Type 0
 SomeClosure nodes bound classes todo = (pairs : Pairs) × (seen : Pairs) × IsClosure nodes bound pairs classes todo seen
+
+-- a root that is a node has a head
+abbrev pub IsBuiltIn : List TyNode → End → Type 0
+IsBuiltIn nodes (Free n) = Unit {0}
+IsBuiltIn nodes (Built r) = (n : TyNode) × (h : Head) × (slice_get nodes r ≡ Some n) × (head_of n ≡ Some h)
+
+-- a node is linked to nodes alone
+abbrev pub MayLink : End → End → Type 0
+MayLink (Free n) to = Unit {0}
+MayLink (Built r) (Free n) = ⊥
+MayLink (Built r) (Built s) = Unit {0}
+
+-- one root is linked to another, one way or the other
+pub record LinksTo (old new : Classes) (from to : End) : Type 0 where
+  pub may : MayLink from to
+  pub forest : (f : End → End) → IsForest old f → IsForest new (joined f from to)
+  pub links : (e g : End) → up new e ≡ Some g → (e ≡ from) ⊎ (up old e ≡ Some g)
+
+abbrev pub Links : Classes → Classes → End → End → Type 0
+Links old new left right = LinksTo old new left right ⊎ LinksTo old new right left
+
+-- two nodes have different heads
+abbrev pub Clashes : List TyNode → End → End → Type 0
+Clashes nodes left right = (r s : ℕ) × (n m : TyNode) × (h k : Head) × (left ≡ Built r) × (right ≡ Built s) × (slice_get nodes r ≡ Some n) × (slice_get nodes s ≡ Some m) × (head_of n ≡ Some h) × (head_of m ≡ Some k) × (h ≡ k → ⊥)
+
+-- what is still to do after two nodes with one head are in one class: their parts
+pub record DoesParts (todo todo' : Pairs) (n m : TyNode) : Type 0 where
+  pub old : (d : TyId → Tree) → Equates d todo' → Equates d todo
+  pub parts : (d : TyId → Tree) → Equates d todo' → trees d (parts_of n) ≡ trees d (parts_of m)
+  pub new : (d : TyId → Tree) → Equates d todo → trees d (parts_of n) ≡ trees d (parts_of m) → Equates d todo'
+  pub within : (count : ℕ) → ((i : ℕ) (p : TyId) → slice_get (parts_of n) i ≡ Some p → p.0 < count) → ((i : ℕ) (p : TyId) → slice_get (parts_of m) i ≡ Some p → p.0 < count) → PairsWithin count todo → PairsWithin count todo'
+
+pub data ToDo (nodes : List TyNode) (todo todo' : Pairs) (left right : End) : Type 0 where
+  no_parts : ((n : ℕ) × (left ≡ Free n)) ⊎ ((n : ℕ) × (right ≡ Free n)) → todo' ≡ todo → ToDo nodes todo todo' left right
+  their_parts : (r s : ℕ) (n m : TyNode) (h : Head) → left ≡ Built r → right ≡ Built s → slice_get nodes r ≡ Some n → slice_get nodes s ≡ Some m → head_of n ≡ Some h → head_of m ≡ Some h → DoesParts todo todo' n m → ToDo nodes todo todo' left right
+
+pub record Merges (nodes : List TyNode) (old new : Classes) (todo todo' : Pairs) (left right : End) : Type 0 where
+  pub links : Links old new left right
+  pub to_do : ToDo nodes todo todo' left right

@@ -5,8 +5,7 @@ use std::collections::HashMap;
 use ml_types::{TyId, TyNode};
 use oxml_base::NoMemory;
 
-use crate::classes::Classes;
-use crate::closure::close;
+use crate::closure::{Closed, close};
 use crate::measure::measure;
 
 /// What solutions pairs have.
@@ -29,12 +28,9 @@ pub fn judge(
     bound: &[Option<TyId>],
     pairs: &[(TyId, TyId)],
 ) -> Result<Verdict, NoMemory> {
-    let mut classes = Classes::new(alloc);
-    let mut seen = Vec::new(alloc);
-    let todo = Vec::from_slice(alloc, pairs)?;
-    if !close(nodes, bound, &mut classes, todo, &mut seen)? {
+    let Some(Closed { classes, seen }) = close(alloc, nodes, bound, pairs)? else {
         return Ok(Verdict::Clash);
-    }
+    };
     let mut marks = HashMap::new(alloc);
     for pair in seen.as_slice() {
         if measure(alloc, nodes, bound, &classes, &mut marks, pair.0)?.is_none() {
