@@ -118,7 +118,7 @@ pub end_at-self : (nodes : List TyNode) (bound : Bound) → IsTabled nodes bound
 end_at-self nodes bound tabled x h = end_at-is nodes bound tabled x x (here x h)
 
 -- a node with a head is not bound
-head-none : (n : TyNode) (h : Head) → head_of n ≡ Some h → variable_of n ≡ None
+pub head-none : (n : TyNode) (h : Head) → head_of n ≡ Some h → variable_of n ≡ None
 head-none (Var m) h e = absurd cc
 head-none (Con d args) h e = refl
 head-none (Tuple parts) h e = refl

@@ -60,7 +60,7 @@ PairsWithin-take n (p ∷ ps) zero h = tt
 PairsWithin-take n (p ∷ ps) (suc k) h = (h.0, h.1, PairsWithin-take n ps k h.2)
 
 -- a tree more at the end
-pub snoc : Trees → Tree → Trees
+unfoldable pub snoc : Trees → Tree → Trees
 snoc Nil t = Cons t Nil
 snoc (Cons u us) t = Cons u (snoc us t)
 
@@ -93,3 +93,12 @@ take-end (y ∷ xs) (suc i) h = ap (λ l. y ∷ l) (take-end xs i h)
 pub trees-next : (d : TyId → Tree) (xs ys : List TyId) (i : ℕ) (x y : TyId) → slice_get xs i ≡ Some x → slice_get ys i ≡ Some y → trees d (take i xs) ≡ trees d (take i ys) → d x ≡ d y → trees d (take (i + 1) xs) ≡ trees d (take (i + 1) ys)
 trees-next d xs ys i x y p q h e =
     ap (trees d) (take-next xs i x p) ∙ trees-snoc d (take i xs) x ∙ ap (λ ts. snoc ts (d x)) h ∙ ap (snoc (trees d (take i ys))) e ∙ sym (trees-snoc d (take i ys) y) ∙ sym (ap (trees d) (take-next ys i y q))
+
+pub empty_from : {A : Type 0} (xs : List A) → length xs ≡ 0 → xs ≡ []
+empty_from [] h = refl
+empty_from (x ∷ xs) h = absurd (omega arith)
+
+pub PairsWithin-at : (n : ℕ) (ps : Pairs) (i : ℕ) (p : TyId × TyId) → PairsWithin n ps → slice_get ps i ≡ Some p → (p.0.0 < n) × (p.1.0 < n)
+PairsWithin-at n [] i p w h = absurd cc
+PairsWithin-at n (q ∷ ps) zero p w h = let e : q ≡ p = cc in subst (λ (v : TyId × TyId). (v.0.0 < n) × (v.1.0 < n)) e (w.0, w.1)
+PairsWithin-at n (q ∷ ps) (suc i) p w h = PairsWithin-at n ps i p w.2 h

@@ -3,3 +3,8 @@ pub mod Equations
 pub mod Joins
 pub mod Steps
 pub mod Starts
+pub mod Shapes
+pub mod Searches
+pub mod Finite
+pub mod Verdicts
+pub mod Walks

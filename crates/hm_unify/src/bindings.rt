@@ -76,7 +76,7 @@ impl Bindings {
                 Err(UnifyErr::Cycle(number as u32))
             }
             Verdict::TooLarge => Err(UnifyErr::TooLarge(2001)),
-            Verdict::Fits => {
+            Verdict::Small => {
                 for pair in pairs {
                     walk(self.nodes.as_slice(), &mut self.bound, pair.0, pair.1, 2000);
                 }

@@ -1,12 +1,19 @@
 //! Whether pairs have a solution, and of what kind.
+ghost use Rattle.std.specs.Prelude.{◌≡◌, ℕ, ◌<◌, [], ◌∷◌, length, IfOk};
+ghost use Rattle.hm_unify.specs.Solutions.{Pairs, NoFinite, IsFirstFault};
+ghost use Rattle.hm_unify.specs.States.{IsTabled, IsSound};
+ghost use Rattle.hm_unify.specs.Closing.{class_of, IsClosure, SomeClosure, PairsWithin};
+ghost use Rattle.hm_unify.specs.Shapes.{IsMarked, FindsAll};
+ghost use Rattle.hm_unify.specs.Verdicts.{Judged};
+
 use std::alloc::Global;
-use std::collections::HashMap;
 
 use ml_types::{TyId, TyNode};
 use oxml_base::NoMemory;
 
+use crate::classes::Classes;
 use crate::closure::{Closed, close};
-use crate::measure::measure;
+use crate::measure::{Marks, measure};
 
 /// What solutions pairs have.
 #[derive(Clone, Copy, Debug, PartialEq, Eq)]
@@ -18,7 +25,55 @@ pub enum Verdict {
     /// A finite one, and each gives an id of the pairs more than 2,000 nodes.
     TooLarge,
     /// A finite one in which no id of the pairs has more than 2,000 nodes.
-    Fits,
+    Small,
+}
+
+/// The largest number of nodes, up to 2,001, of the ids of one pair; `None` where a class is a part
+/// of itself.
+fn larger(
+    alloc: Global,
+    nodes: &[TyNode],
+    bound: &[Option<TyId>],
+    classes: &Classes,
+    marks: &mut Marks,
+    first: TyId,
+    second: TyId,
+) -> Result<Option<u64>, NoMemory>
+    requires tabled { IsTabled nodes.now bound.now }
+    requires closure { SomeClosure nodes.now bound.now classes.now [] }
+    requires within_first { first.0 < length nodes.now }
+    requires within_second { second.0 < length nodes.now }
+    ensures { IfOk result (λ size. (pairs seen : Pairs) (k : IsClosure nodes.now bound.now pairs classes.now [] seen) → IsMarked nodes.now (class_of nodes.now bound.now k.root_of) marks.old [] → FindsAll nodes.now bound.now pairs (class_of nodes.now bound.now k.root_of) ((first, second) ∷ []) marks.new size) }
+{
+    let one = measure(alloc, nodes, bound, classes, marks, first)?;
+    let Some(left) = one else { return Ok(None) };
+    let other = measure(alloc, nodes, bound, classes, marks, second)?;
+    let Some(right) = other else { return Ok(None) };
+    Ok(Some(left.max(right)))
+}
+
+/// The largest number of nodes, up to 2,001, of the ids of the pairs; `None` where a class is a part
+/// of itself.
+fn largest(
+    alloc: Global,
+    nodes: &[TyNode],
+    bound: &[Option<TyId>],
+    classes: &Classes,
+    marks: &mut Marks,
+    list: &[(TyId, TyId)],
+) -> Result<Option<u64>, NoMemory>
+    requires tabled { IsTabled nodes.now bound.now }
+    requires closure { SomeClosure nodes.now bound.now classes.now [] }
+    requires within { PairsWithin (length nodes.now) list.now }
+    ensures { IfOk result (λ size. (pairs seen : Pairs) (k : IsClosure nodes.now bound.now pairs classes.now [] seen) → IsMarked nodes.now (class_of nodes.now bound.now k.root_of) marks.old [] → FindsAll nodes.now bound.now pairs (class_of nodes.now bound.now k.root_of) list.now marks.new size) }
+{
+    let mut size = 0;
+    for pair in list {
+        let found = larger(alloc, nodes, bound, classes, marks, pair.0, pair.1)?;
+        let Some(more) = found else { return Ok(None) };
+        size = size.max(more);
+    }
+    Ok(Some(size))
 }
 
 /// What solutions the pairs have over the bindings.
@@ -27,31 +82,26 @@ pub fn judge(
     nodes: &[TyNode],
     bound: &[Option<TyId>],
     pairs: &[(TyId, TyId)],
-) -> Result<Verdict, NoMemory> {
-    let Some(Closed { classes, seen }) = close(alloc, nodes, bound, pairs)? else {
+) -> Result<Verdict, NoMemory>
+    requires sound { IsSound nodes.now bound.now }
+    requires within { PairsWithin (length nodes.now) pairs.now }
+    ensures { IfOk result (λ verdict. Judged nodes.now bound.now pairs.now verdict) }
+{
+    let closed = close(alloc, nodes, bound, pairs)?;
+    let Some(Closed { classes, seen }) = closed else {
         return Ok(Verdict::Clash);
     };
-    let mut marks = HashMap::new(alloc);
-    for pair in seen.as_slice() {
-        if measure(alloc, nodes, bound, &classes, &mut marks, pair.0)?.is_none() {
-            return Ok(Verdict::Cycle);
-        }
-        if measure(alloc, nodes, bound, &classes, &mut marks, pair.1)?.is_none() {
-            return Ok(Verdict::Cycle);
-        }
+    let mut marks = Marks::new(alloc);
+    let all = largest(alloc, nodes, bound, &classes, &mut marks, seen.as_slice())?;
+    if all.is_none() {
+        return Ok(Verdict::Cycle);
     }
-    for pair in pairs {
-        let Some(left) = measure(alloc, nodes, bound, &classes, &mut marks, pair.0)? else {
-            return Ok(Verdict::Cycle);
-        };
-        let Some(right) = measure(alloc, nodes, bound, &classes, &mut marks, pair.1)? else {
-            return Ok(Verdict::Cycle);
-        };
-        if left > 2000 || right > 2000 {
-            return Ok(Verdict::TooLarge);
-        }
+    let most = largest(alloc, nodes, bound, &classes, &mut marks, pairs)?;
+    let Some(size) = most else { return Ok(Verdict::Cycle) };
+    if size > 2000 {
+        return Ok(Verdict::TooLarge);
     }
-    Ok(Verdict::Fits)
+    Ok(Verdict::Small)
 }
 
 /// The number of the first pair that, with those before it, leaves no finite solution.
@@ -60,14 +110,22 @@ pub fn first_fault(
     nodes: &[TyNode],
     bound: &[Option<TyId>],
     pairs: &[(TyId, TyId)],
-) -> Result<usize, NoMemory> {
+) -> Result<usize, NoMemory>
+    requires sound { IsSound nodes.now bound.now }
+    requires within { PairsWithin (length nodes.now) pairs.now }
+    requires fault { NoFinite nodes.now bound.now pairs.now }
+    ensures { IfOk result (λ k. IsFirstFault nodes.now bound.now pairs.now k) }
+{
     let mut low = 0;
     let mut high = pairs.len();
-    while low + 1 < high {
+    while high - low > 1 {
         let middle = low + (high - low) / 2;
-        match judge(alloc, nodes, bound, &pairs[..middle])? {
-            Verdict::Clash | Verdict::Cycle => high = middle,
-            Verdict::TooLarge | Verdict::Fits => low = middle,
+        let verdict = judge(alloc, nodes, bound, &pairs[..middle])?;
+        match verdict {
+            Verdict::Clash => high = middle,
+            Verdict::Cycle => high = middle,
+            Verdict::TooLarge => low = middle,
+            Verdict::Small => low = middle,
         }
     }
     Ok(low)
