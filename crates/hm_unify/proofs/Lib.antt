@@ -8,3 +8,4 @@ pub mod Searches
 pub mod Finite
 pub mod Verdicts
 pub mod Walks
+pub mod WalkSteps

@@ -6,13 +6,15 @@ use Rattle.ml_types.specs.declared.node.TyNode.{TyNode}
 use Rattle.ml_types.specs.Types.{Tree, tree_size}
 use Rattle.hm_unify.specs.declared.classes.Classes.{Classes}
 use Rattle.hm_unify.specs.declared.classes.End.TheVariants.{Built}
-use Rattle.hm_unify.specs.Solutions.{Bound, Pairs, Solves, HasFinite, Equates, IsIdOf, Fits, IsTooLarge, NoFinite, NoInfinite, IsFirstFault}
+use Rattle.hm_unify.specs.Solutions.{Bound, Pairs, Solves, HasFinite, HasInfinite, Equates, IsIdOf, Fits, IsTooLarge, NoFinite, NoInfinite, IsFirstFault}
 use Rattle.hm_unify.specs.States.{IsTabled}
 use Rattle.hm_unify.specs.Closing.{Naming, class_of, IsBuiltRoot, IsClosure, PairsWithin}
-use Rattle.hm_unify.specs.Shapes.{HasSize, AreMeasured, Shape}
+use Rattle.hm_unify.specs.Shapes.{HasSize, AreMeasured, Shape, IsMarked, FindsAll, mark_at}
+use Rattle.hm_unify.specs.declared.measure.Marks.{Marks}
+use Rattle.hm_unify.specs.declared.measure.Mark.TheVariants.{Open, Done}
 use Rattle.hm_unify.proofs.Equations.{IsIdOf-front, IsIdOf-back, Equates-take, Equates-less}
 use Rattle.hm_unify.proofs.Searches.{Respected-closure, IsSolution-finite}
-use Rattle.hm_unify.proofs.Finite.{Least, Least-closure, Shape-unique, Shape-least}
+use Rattle.hm_unify.proofs.Finite.{Least, Least-closure, Shape-unique, Shape-least, HasInfinite-closure}
 
 -- two sizes are those of one pair
 pub AreMeasured-pair : (nodes : List TyNode) (name : Naming) (a b : TyId) (s u : ℕ) → HasSize nodes name (name a) s → HasSize nodes name (name b) u → AreMeasured nodes name ((a, b) ∷ []) (max s u)
@@ -92,3 +94,39 @@ IsTooLarge-closure nodes bound tabled old pairs classes seen k s u all these wit
 
 pub NoFinite-infinite : (nodes : List TyNode) (bound : Bound) (pairs : Pairs) → NoInfinite nodes bound pairs → NoFinite nodes bound pairs
 NoFinite-infinite nodes bound pairs none t s e = none t (IsSolution-finite nodes bound t s) e
+
+pub IsMarked-new : (nodes : List TyNode) (name : Naming) (marks : Marks) → ((r : ℕ) → mark_at marks r ≡ None) → IsMarked nodes name marks []
+IsMarked-new nodes name marks none =
+    record {
+      done = λ r s h. absurd (let g : None ≡ Some (Done s) = sym (none r) ∙ h in cc);
+      opened = λ r h. absurd (let g : None ≡ Some Open = sym (none r) ∙ h in cc)
+    }
+
+-- what is known of the largest size in a list
+abbrev pub Finding : List TyNode → Bound → Classes → Marks → Marks → Pairs → Option ℕ → Type 0
+Finding nodes bound classes old new list o =
+    (pairs seen : Pairs) (k : IsClosure nodes bound pairs classes [] seen) → IsMarked nodes (class_of nodes bound k.root_of) old [] → FindsAll nodes bound pairs (class_of nodes bound k.root_of) list new o
+
+pub judged_first : (nodes : List TyNode) (bound : Bound) → IsTabled nodes bound → (pairs : Pairs) (classes : Classes) (seen list : Pairs) (m0 m1 : Marks) (o : Option ℕ) → IsClosure nodes bound pairs classes [] seen → ((r : ℕ) → mark_at m0 r ≡ None) → Finding nodes bound classes m0 m1 list o → o ≡ None → HasInfinite nodes bound pairs × NoFinite nodes bound pairs
+judged_first nodes bound tabled pairs classes seen list m0 m1 o k none find is =
+    (HasInfinite-closure nodes bound tabled pairs classes seen k, subst (FindsAll nodes bound pairs (class_of nodes bound k.root_of) list m1) is (find pairs seen k (IsMarked-new nodes (class_of nodes bound k.root_of) m0 none)))
+
+pub judged_then : (nodes : List TyNode) (bound : Bound) → IsTabled nodes bound → (pairs : Pairs) (classes : Classes) (seen list : Pairs) (m0 m1 m2 : Marks) (o p : Option ℕ) (s : ℕ) → IsClosure nodes bound pairs classes [] seen → ((r : ℕ) → mark_at m0 r ≡ None) → Finding nodes bound classes m0 m1 list o → o ≡ Some s → Finding nodes bound classes m1 m2 pairs p → p ≡ None → HasInfinite nodes bound pairs × NoFinite nodes bound pairs
+judged_then nodes bound tabled pairs classes seen list m0 m1 m2 o p s k none find is again then =
+    let name = class_of nodes bound k.root_of in
+    let a = subst (FindsAll nodes bound pairs name list m1) is (find pairs seen k (IsMarked-new nodes name m0 none)) in
+    (HasInfinite-closure nodes bound tabled pairs classes seen k, subst (FindsAll nodes bound pairs name pairs m2) then (again pairs seen k a.1))
+
+pub judged_large : (nodes : List TyNode) (bound : Bound) → IsTabled nodes bound → HasFinite nodes bound [] → (pairs : Pairs) (classes : Classes) (seen list : Pairs) (m0 m1 m2 : Marks) (o p : Option ℕ) (s u : ℕ) → IsClosure nodes bound pairs classes [] seen → list ≡ seen → ((r : ℕ) → mark_at m0 r ≡ None) → Finding nodes bound classes m0 m1 list o → o ≡ Some s → Finding nodes bound classes m1 m2 pairs p → p ≡ Some u → PairsWithin (length nodes) pairs → 2000 < u → IsTooLarge nodes bound pairs
+judged_large nodes bound tabled old pairs classes seen list m0 m1 m2 o p s u k same none find is again then within large =
+    let name = class_of nodes bound k.root_of in
+    let a = subst (FindsAll nodes bound pairs name list m1) is (find pairs seen k (IsMarked-new nodes name m0 none)) in
+    let b = subst (FindsAll nodes bound pairs name pairs m2) then (again pairs seen k a.1) in
+    IsTooLarge-closure nodes bound tabled old pairs classes seen k s u (subst (λ v. AreMeasured nodes name v s) same a.0) b.0 within large
+
+pub judged_small : (nodes : List TyNode) (bound : Bound) → IsTabled nodes bound → HasFinite nodes bound [] → (pairs : Pairs) (classes : Classes) (seen list : Pairs) (m0 m1 m2 : Marks) (o p : Option ℕ) (s u : ℕ) → IsClosure nodes bound pairs classes [] seen → list ≡ seen → ((r : ℕ) → mark_at m0 r ≡ None) → Finding nodes bound classes m0 m1 list o → o ≡ Some s → Finding nodes bound classes m1 m2 pairs p → p ≡ Some u → u ≤ 2000 → Fits nodes bound pairs
+judged_small nodes bound tabled old pairs classes seen list m0 m1 m2 o p s u k same none find is again then small =
+    let name = class_of nodes bound k.root_of in
+    let a = subst (FindsAll nodes bound pairs name list m1) is (find pairs seen k (IsMarked-new nodes name m0 none)) in
+    let b = subst (FindsAll nodes bound pairs name pairs m2) then (again pairs seen k a.1) in
+    Fits-closure nodes bound tabled old pairs classes seen k s u (subst (λ v. AreMeasured nodes name v s) same a.0) b.0 small

@@ -128,3 +128,20 @@ IsTabled-bind nodes m w n k lt w_in rises =
       targets_in = λ i y h. ⊎_elim (λ (c : (i ≡ n) × (y ≡ w)). subst (λ v. v.0 < length nodes) (sym c.1) w_in) (λ (c : get_or m i None ≡ Some y). k.targets_in i y c) (set_cases m n i w y lt h);
       rising = λ i j y h p. ⊎_elim (λ (c : (i ≡ n) × (y ≡ w)). subst (λ v. rank v < rank j) (sym c.0) (rises j (subst (λ v. node_at nodes v ≡ Some (Var j)) c.1 p))) (λ (c : get_or m i None ≡ Some y). k.rising i j y c p) (set_cases m n i w y lt h)
     }
+
+mutual
+  -- bound variables keep their ids
+  pub Walk-keeps : (nodes : List TyNode) (m : Bound) (a b : TyId) (m' : Bound) → Walk nodes m a b m' → (k : ℕ) (v : TyId) → get_or m k None ≡ Some v → get_or m' k None ≡ Some v
+  Walk-keeps nodes m a b m' (same_node x p q) k v h = h
+  Walk-keeps nodes m a b m' (same_variable x y n p q i j) k v h = h
+  Walk-keeps nodes m a b m' (left x y n p q i j lt) k v h = set_keeps m n k (Some y) v (unbound nodes m x n i (Ends-end nodes m a x p)) h
+  Walk-keeps nodes m a b m' (right x y n p q i j lt) k v h = set_keeps m n k (Some x) v (unbound nodes m y n i (Ends-end nodes m b y q)) h
+  Walk-keeps nodes m a b m' (parts x y n j h p q i g c d w) k v e = WalkAll-keeps nodes m (parts_of n) (parts_of j) m' w k v e
+
+  pub WalkAll-keeps : (nodes : List TyNode) (m : Bound) (ps qs : List TyId) (m' : Bound) → WalkAll nodes m ps qs m' → (k : ℕ) (v : TyId) → get_or m k None ≡ Some v → get_or m' k None ≡ Some v
+  WalkAll-keeps nodes m ps qs m' done k v h = h
+  WalkAll-keeps nodes m ps qs m' (step {m1 = m1} {a = a} {b = b} {ps = as'} {qs = bs'} w all) k v h = WalkAll-keeps nodes m1 as' bs' m' all k v (Walk-keeps nodes m a b m1 w k v h)
+
+pub WalkPairs-keeps : (nodes : List TyNode) (m : Bound) (ps : Pairs) (m' : Bound) → WalkPairs nodes m ps m' → (k : ℕ) (v : TyId) → get_or m k None ≡ Some v → get_or m' k None ≡ Some v
+WalkPairs-keeps nodes m ps m' all_walked k v h = h
+WalkPairs-keeps nodes m ps m' (next_pair {m1 = m1} a b {ps = qs} w all) k v h = WalkPairs-keeps nodes m1 qs m' all k v (Walk-keeps nodes m a b m1 w k v h)

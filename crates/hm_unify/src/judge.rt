@@ -1,6 +1,8 @@
 //! Whether pairs have a solution, and of what kind.
-ghost use Rattle.std.specs.Prelude.{◌≡◌, ℕ, ◌<◌, [], ◌∷◌, length, IfOk};
-ghost use Rattle.hm_unify.specs.Solutions.{Pairs, NoFinite, IsFirstFault};
+ghost use Rattle.std.specs.Prelude.{◌≡◌, ℕ, ◌<◌, [], ◌∷◌, length, List, IfOk};
+ghost use Rattle.std.specs.Bool.{MatchBool};
+ghost use Rattle.ml_types.specs.declared.node.TyNode.{TyNode};
+ghost use Rattle.hm_unify.specs.Solutions.{Bound, Pairs, NoFinite, HasFinite, IsFirstFault};
 ghost use Rattle.hm_unify.specs.States.{IsTabled, IsSound};
 ghost use Rattle.hm_unify.specs.Closing.{class_of, IsClosure, SomeClosure, PairsWithin};
 ghost use Rattle.hm_unify.specs.Shapes.{IsMarked, FindsAll};
@@ -67,7 +69,7 @@ fn largest(
     requires within { PairsWithin (length nodes.now) list.now }
     ensures { IfOk result (λ size. (pairs seen : Pairs) (k : IsClosure nodes.now bound.now pairs classes.now [] seen) → IsMarked nodes.now (class_of nodes.now bound.now k.root_of) marks.old [] → FindsAll nodes.now bound.now pairs (class_of nodes.now bound.now k.root_of) list.now marks.new size) }
 {
-    let mut size = 0;
+    let mut size: u64 = 0;
     for pair in list {
         let found = larger(alloc, nodes, bound, classes, marks, pair.0, pair.1)?;
         let Some(more) = found else { return Ok(None) };
@@ -93,15 +95,25 @@ pub fn judge(
     };
     let mut marks = Marks::new(alloc);
     let all = largest(alloc, nodes, bound, &classes, &mut marks, seen.as_slice())?;
-    if all.is_none() {
-        return Ok(Verdict::Cycle);
-    }
+    let Some(_all) = all else { return Ok(Verdict::Cycle) };
     let most = largest(alloc, nodes, bound, &classes, &mut marks, pairs)?;
     let Some(size) = most else { return Ok(Verdict::Cycle) };
     if size > 2000 {
         return Ok(Verdict::TooLarge);
     }
     Ok(Verdict::Small)
+}
+
+/// Whether there is no finite solution.
+fn is_fault(verdict: Verdict) -> bool
+    ensures { (nodes : List TyNode) (bound : Bound) (pairs : Pairs) → Judged nodes bound pairs verdict → MatchBool result (NoFinite nodes bound pairs) (HasFinite nodes bound pairs) }
+{
+    match verdict {
+        Verdict::Clash => true,
+        Verdict::Cycle => true,
+        Verdict::TooLarge => false,
+        Verdict::Small => false,
+    }
 }
 
 /// The number of the first pair that, with those before it, leaves no finite solution.
@@ -120,13 +132,13 @@ pub fn first_fault(
     let mut high = pairs.len();
     while high - low > 1 {
         let middle = low + (high - low) / 2;
-        let verdict = judge(alloc, nodes, bound, &pairs[..middle])?;
-        match verdict {
-            Verdict::Clash => high = middle,
-            Verdict::Cycle => high = middle,
-            Verdict::TooLarge => low = middle,
-            Verdict::Small => low = middle,
+        let front = &pairs[..middle];
+        let verdict = judge(alloc, nodes, bound, front)?;
+        if is_fault(verdict) {
+            high = middle;
+            continue;
         }
+        low = middle;
     }
     Ok(low)
 }

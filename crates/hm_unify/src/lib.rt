@@ -6,9 +6,13 @@ mod bindings;
 mod bound;
 mod classes;
 mod closure;
+mod error;
 mod judge;
 mod measure;
 mod node;
+mod refusal;
+mod tables;
 mod walk;
 
-pub use bindings::{Bindings, UnifyErr};
+pub use bindings::Bindings;
+pub use error::UnifyErr;

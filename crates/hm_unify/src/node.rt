@@ -1,9 +1,12 @@
 //! Nodes by their head and their parts, so that no other file looks at the kinds of nodes.
-ghost use Rattle.std.specs.Prelude.{◌≡◌, ℕ, ◌<◌, ◌≤◌, ◌↔◌, length, IsTrue, Option, Some, None, slice_get};
+ghost use Rattle.std.specs.Prelude.{◌≡◌, ℕ, ◌<◌, ◌≤◌, ◌↔◌, length, IsTrue, Option, Some, None, slice_get, IfOk};
 ghost use Rattle.ml_types.specs.Types.{head_of, parts_of};
 ghost use Rattle.hm_unify.specs.Solutions.{variable_of};
 
+use std::alloc::Global;
+
 use ml_types::{TyId, TyNode};
+use oxml_base::{Items, NoMemory};
 
 /// The node at an id.
 pub fn node(nodes: &[TyNode], id: TyId) -> &TyNode
@@ -61,4 +64,22 @@ pub fn part(node: &TyNode, at: usize) -> Option<TyId>
             _ => None,
         },
     }
+}
+
+/// A node equal to another, the slot of an arrow too.
+pub fn copy_of(alloc: Global, node: &TyNode) -> Result<TyNode, NoMemory>
+    ensures { IfOk result (λ n. n ≡ node.now) }
+{
+    Ok(match node {
+        TyNode::Var(number) => TyNode::Var(*number),
+        TyNode::Con(declaration, parts) => {
+            TyNode::Con(*declaration, Items::from_slice(alloc, parts.as_slice())?)
+        }
+        TyNode::Tuple(parts) => TyNode::Tuple(Items::from_slice(alloc, parts.as_slice())?),
+        TyNode::Arrow { slot, from, to } => TyNode::Arrow {
+            slot: *slot,
+            from: *from,
+            to: *to,
+        },
+    })
 }
