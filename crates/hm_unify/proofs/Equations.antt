@@ -102,3 +102,13 @@ pub PairsWithin-at : (n : ℕ) (ps : Pairs) (i : ℕ) (p : TyId × TyId) → Pai
 PairsWithin-at n [] i p w h = absurd cc
 PairsWithin-at n (q ∷ ps) zero p w h = let e : q ≡ p = cc in subst (λ (v : TyId × TyId). (v.0.0 < n) × (v.1.0 < n)) e (w.0, w.1)
 PairsWithin-at n (q ∷ ps) (suc i) p w h = PairsWithin-at n ps i p w.2 h
+
+pub Equates-at : (d : TyId → Tree) (ps : Pairs) (i : ℕ) (p : TyId × TyId) → Equates d ps → slice_get ps i ≡ Some p → d p.0 ≡ d p.1
+Equates-at d [] i p e h = absurd cc
+Equates-at d (q ∷ ps) zero p e h = let g : q ≡ p = cc in subst (λ (v : TyId × TyId). d v.0 ≡ d v.1) g e.0
+Equates-at d (q ∷ ps) (suc i) p e h = Equates-at d ps i p e.1 h
+
+pub IsIdOf-at : (ps : Pairs) (i : ℕ) (p : TyId × TyId) → slice_get ps i ≡ Some p → IsIdOf ps p.0
+IsIdOf-at [] i p h = absurd cc
+IsIdOf-at (q ∷ ps) zero p h = let g : q ≡ p = cc in inl (sym (ap (λ (v : TyId × TyId). v.0) g))
+IsIdOf-at (q ∷ ps) (suc i) p h = inr (inr (IsIdOf-at ps i p h))

@@ -9,3 +9,5 @@ pub mod Finite
 pub mod Verdicts
 pub mod Walks
 pub mod WalkSteps
+pub mod Growth
+pub mod Sizes

@@ -20,10 +20,9 @@ pub fn cover(bound: &mut Vec<Option<TyId>>, node: &TyNode) -> Result<(), NoMemor
     ensures longer { length bound.old.items ≤ length bound.new.items }
     ensures covers { OnOk result ((n : ℕ) → variable_of node.now ≡ Some n → n < length bound.new.items) }
 {
-    if let Some(number) = variable(node) {
-        for _at in bound.len()..number as usize + 1 {
-            bound.push(None)?;
-        }
+    let Some(number) = variable(node) else { return Ok(()) };
+    for _at in bound.len()..number as usize + 1 {
+        bound.push(None)?;
     }
     Ok(())
 }
@@ -35,7 +34,8 @@ pub fn covering(alloc: Global, nodes: &[TyNode]) -> Result<Vec<Option<TyId>>, No
 {
     let mut bound = Vec::new(alloc);
     for at in 0..nodes.len() {
-        cover(&mut bound, &nodes[at])?;
+        let node = &nodes[at];
+        cover(&mut bound, node)?;
     }
     Ok(bound)
 }
@@ -44,7 +44,9 @@ pub fn covering(alloc: Global, nodes: &[TyNode]) -> Result<Vec<Option<TyId>>, No
 pub fn size_within(nodes: &[TyNode], bound: &[Option<TyId>], id: TyId, most: u64) -> u64
     requires tabled { IsTabled nodes.now bound.now }
     requires within { id.0 < length nodes.now }
-    ensures { (t : Tree) → Stands nodes.now bound.now id t → result ≡ min (tree_size t) most }
+    ensures value { (t : Tree) → Stands nodes.now bound.now id t → result ≡ min (tree_size t) most }
+    ensures most { result ≤ most }
+    ensures some { 0 < most → 0 < result }
 {
     if most == 0 {
         return 0;
