@@ -11,3 +11,4 @@ pub mod Walks
 pub mod WalkSteps
 pub mod Growth
 pub mod Sizes
+pub mod Results

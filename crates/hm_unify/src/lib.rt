@@ -14,5 +14,8 @@ mod refusal;
 mod tables;
 mod walk;
 
+#[cfg(test)]
+mod tests;
+
 pub use bindings::Bindings;
 pub use error::UnifyErr;

@@ -1,0 +1,2 @@
+use Rattle.hm_unify.proofs.Growth.{IsSound-push, IsSound-longer}
+use Rattle.hm_unify.proofs.bindings.Bindings.add.Goals as goal
