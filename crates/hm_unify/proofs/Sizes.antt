@@ -42,14 +42,14 @@ cons_by nodes bound xs ts y ys (more x zs t us s all) h =
 pub StandAll-last : (nodes : List TyNode) (bound : Bound) (xs : List TyId) (x : TyId) (ts : Trees) → StandAll nodes bound (xs ++ x ∷ []) ts → (us : Trees) × (t : Tree) × StandAll nodes bound xs us × Stands nodes bound x t × (trees_size ts ≡ trees_size us + tree_size t)
 StandAll-last nodes bound [] x ts all =
     let o = cons_by nodes bound (x ∷ []) ts x [] all refl in
-    (Nil, o.0, none, o.2, nothing o.1 o.3 o.4)
+    (Nil, o.0, none, o.2, nothing o.0 o.1 o.3 o.4)
   where
     nothing_by : (zs : List TyId) (us : Trees) → StandAll nodes bound zs us → zs ≡ [] → trees_size us ≡ 0
     nothing_by zs us none h = refl
     nothing_by zs us (more y ys u vs s q) h = absurd cc
 
-    nothing : {t : Tree} (us : Trees) → StandAll nodes bound [] us → trees_size ts ≡ tree_size t + trees_size us → trees_size ts ≡ 0 + tree_size t
-    nothing us q e = let w = nothing_by [] us q refl in omega (arith, w, e)
+    nothing : (t : Tree) (us : Trees) → StandAll nodes bound [] us → trees_size ts ≡ tree_size t + trees_size us → trees_size ts ≡ 0 + tree_size t
+    nothing t us q e = let w = nothing_by [] us q refl in omega (arith, w, e)
 StandAll-last nodes bound (y ∷ xs) x ts all =
     let o = cons_by nodes bound (y ∷ (xs ++ x ∷ [])) ts y (xs ++ x ∷ []) all refl in
     let g = StandAll-last nodes bound xs x o.1 o.3 in
@@ -60,11 +60,11 @@ abbrev pub Counts : List TyNode → Bound → List TyId → ℕ → ℕ → Type
 Counts nodes bound xs count most = (us : Trees) → StandAll nodes bound xs us → count ≡ min (trees_size us + 1) most
 
 pub Counts-none : (nodes : List TyNode) (bound : Bound) (most : ℕ) → 0 < most → Counts nodes bound [] 1 most
-Counts-none nodes bound most lt us all = by us all refl
+Counts-none nodes bound most lt us all = by [] us all refl
   where
-    by : {zs : List TyId} (vs : Trees) → StandAll nodes bound zs vs → zs ≡ [] → 1 ≡ min (trees_size vs + 1) most
-    by vs none h = omega arith
-    by vs (more y ys u ws s q) h = absurd cc
+    by : (zs : List TyId) (vs : Trees) → StandAll nodes bound zs vs → zs ≡ [] → 1 ≡ min (trees_size vs + 1) most
+    by zs vs none h = omega arith
+    by zs vs (more y ys u ws s q) h = absurd cc
 
 pub Counts-more : (nodes : List TyNode) (bound : Bound) (xs : List TyId) (i : ℕ) (x : TyId) (count size most : ℕ) → Counts nodes bound (take i xs) count most → slice_get xs i ≡ Some x → count ≤ most → ((t : Tree) → Stands nodes bound x t → size ≡ min (tree_size t) (most - count)) → Counts nodes bound (take (i + 1) xs) (count + size) most
 Counts-more nodes bound xs i x count size most k at le sizes us all =

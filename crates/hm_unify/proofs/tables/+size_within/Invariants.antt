@@ -8,7 +8,7 @@ decreases-size_within l = l.most
 
 abbrev pub invariant-loop-at : goal.invariant-loop-at
 invariant-loop-at l = record {
-  counts : Counts l.nodes.now l.bound.now (take l.at (parts_of l.top)) l.count l.most;
+  counts : Counts l.nodes l.bound (take l.at (parts_of l.top)) l.count l.most;
   below : l.at < l.count;
   most : l.count ≤ l.most
 }
