@@ -1,0 +1,14 @@
+pub mod Ends
+pub mod Equations
+pub mod Joins
+pub mod Steps
+pub mod Starts
+pub mod Shapes
+pub mod Searches
+pub mod Finite
+pub mod Verdicts
+pub mod Walks
+pub mod WalkSteps
+pub mod Growth
+pub mod Sizes
+pub mod Results
