@@ -1,5 +1,5 @@
 -- The parts of the loop, one behind another.
-use Rattle.std.proofs.Common.{◌++◌, flat_map, ap, ◌∙◌, append_assoc}
+use Rattle.std.proofs.Common.{flat_map}
 use Rattle.std.proofs.lemmas.Result.{on_ok_weaker}
 use Rattle.x64_table.specs.Encoding.{encoding}
 use Rattle.oxml_driver.specs.Printer.{ask_rows, answer_rows, rest_rows, exit_with}
