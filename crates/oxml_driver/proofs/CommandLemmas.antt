@@ -1,11 +1,11 @@
 -- How the parts of the command make its answers.
-use Rattle.std.proofs.Common.{◌≡◌, ℕ, ◌≤◌, ◌⊎◌, inl, inr, true, List, [], ◌++◌, length, Some, refl, sym, ◌∙◌, ap, append-nil, subst}
+use Rattle.std.proofs.Common.{◌≡◌, ℕ, ◌≤◌, ◌⊎◌, inl, inr, true, List, [], length, Some, refl, sym, ◌∙◌, append-nil, subst}
 use Rattle.oxml_base.specs.declared.outside.ShelfCall.{ShelfCall}
 use Rattle.oxml_base.specs.declared.outside.ShelfCall.TheVariants.{Load, Save}
 use Rattle.oxml_base.specs.declared.refusal.Refusal.{Refusal}
-use Rattle.oxml_base.specs.Outside.{ShelfView, SinkView, Rose, SameHeld, SameBut, SameFaults, ShelfFails, HoldsMore, GainsPart, Puts}
-use Rattle.oxml_driver.specs.Build.{Compiles, PrintsNothing, default_sizes, left_out, most_bytes}
-use Rattle.oxml_driver.specs.Command.{World, HasSource, IsLeftOut, IsTooLong, IsBuilt, Says, IsRefused, IsReadFault, IsLine, GainsParts, IsWriteFault, IsLimit, IsNoMemory, IsMisread, Answers, built, refused, usage, read_fault, write_fault, limit, no_memory}
+use Rattle.oxml_base.specs.Outside.{ShelfView, SinkView, Rose, SameHeld, SameBut, SameFaults, ShelfFails, HoldsMore, GainsPart}
+use Rattle.oxml_driver.specs.Build.{PrintsNothing, left_out, most_bytes}
+use Rattle.oxml_driver.specs.Command.{World, HasSource, IsLeftOut, IsTooLong, IsBuilt, Says, IsReadFault, IsLine, GainsParts, IsWriteFault, Answers, built, refused, usage, read_fault, write_fault, limit, no_memory}
 use Rattle.oxml_driver.specs.Lines.{bytes_limit_line, read_fault_line, refusal_line, write_fault_line}
 use Rattle.oxml_driver.specs.Said.{Said, said, unsaid, not_made, SaidUnread, tried, not_tried, AnswersBuild}
 use Rattle.oxml_driver.specs.Words.{IsBuild}

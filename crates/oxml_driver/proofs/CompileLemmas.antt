@@ -1,12 +1,12 @@
 -- The executable of a text does what the text means.
-use Rattle.std.proofs.Common.{◌≡◌, ℕ, ◌≤◌, List, [], ◌∷◌, length, sym, subst, ap, ◌∙◌, append-nil, Result, Ok, Err, IfOk}
+use Rattle.std.proofs.Common.{◌≡◌, ℕ, ◌≤◌, List, [], ◌∷◌, length, sym, subst, Result, Ok, Err, IfOk}
 use Rattle.x64_table.specs.declared.image.Code.{Code}
 use Rattle.x64_table.specs.declared.image.Sizes.{Sizes}
 use Rattle.x64_table.specs.Agreement.{Agrees, no_excuse}
 use Rattle.elf_image.specs.Layout.{image_of}
 use Rattle.elf_image.specs.Load.{loaded}
 use Rattle.oxml_driver.specs.Build.{IsPrinter, IsPrinterCode}
-use Rattle.oxml_driver.specs.Printer.{prints, printer_of}
+use Rattle.oxml_driver.specs.Printer.{prints}
 use Rattle.oxml_driver.proofs.PrinterTexts.{printer_agrees}
 
 is_printer : (text : List ℕ) (sizes : Sizes) (code : Code) (bytes : List ℕ) → IsPrinterCode text code → loaded bytes ≡ Ok (image_of code sizes) → IsPrinter text sizes bytes

@@ -1,5 +1,5 @@
 -- Where nothing fails, the words and the source decide the answer.
-use Rattle.std.proofs.Common.{◌≡◌, ℕ, ◌≤◌, ◌<◌, ◌⊎◌, inl, inr, true, List, length, Some, refl, sym, ◌∙◌, ap, subst, arith}
+use Rattle.std.proofs.Common.{◌≡◌, ℕ, ◌≤◌, ◌<◌, ◌⊎◌, inl, inr, List, length, Some, sym, ◌∙◌, ap, subst, arith}
 use Rattle.oxml_base.specs.declared.outside.ShelfCall.TheVariants.{Save}
 use Rattle.oxml_base.specs.Outside.{Rose, ShelfFails}
 use Rattle.oxml_driver.specs.Build.{PrintsNothing, most_bytes}

@@ -1,6 +1,6 @@
 -- The line and the column of a place in a source fit 32 bits.
-use Rattle.std.proofs.Common.{◌≡◌, ℕ, ◌+◌, ◌-◌, ◌^◌, ◌≤◌, ◌==◌, Bool, true, false, not, List, [], ◌∷◌, ◌&&◌, length, take, reverse, arith, cond, min}
-use Rattle.std.specs.List.{take_while, count_by, prefix_len}
+use Rattle.std.proofs.Common.{◌≡◌, ℕ, ◌-◌, ◌^◌, ◌≤◌, ◌==◌, Bool, not, List, length, take, reverse, arith, min}
+use Rattle.std.specs.List.{take_while, prefix_len}
 use Rattle.std.proofs.lemmas.List.{length-reverse}
 use Rattle.std.proofs.lemmas.List.Sums.{count_by-le-length}
 use Rattle.std.proofs.lemmas.Grind.{common_steps}

@@ -1,9 +1,8 @@
 -- One byte more of what is read.
-use Rattle.std.proofs.Common.{◌≡◌, ◌<◌, ◌+◌, ℕ, Bool, true, false, List, [], ◌∷◌, ◌++◌, ◌-◌, ◌≤◌, length, drop, take, get_or, append-nil, arith, Option, None, Some, append_assoc, sym, refl, ap, ◌∙◌, add-one}
+use Rattle.std.proofs.Common.{◌≡◌, ◌<◌, ◌+◌, ℕ, Bool, true, false, List, [], ◌∷◌, ◌++◌, ◌-◌, ◌≤◌, length, drop, take, get_or, append-nil, arith, Option, None, Some, append_assoc, refl, ap, ◌∙◌, add-one}
 use Rattle.std.proofs.lemmas.List.{drop_all}
 use Rattle.std.proofs.lemmas.Grind.{common_steps}
 use Rattle.std.proofs.Math.Seq.{drop-cons}
-use Rattle.oxml_driver.specs.declared.source.Spelling.{Spelling}
 use Rattle.oxml_driver.specs.declared.source.Spelling.TheVariants.{Byte, Escape, End, Bad}
 use Rattle.oxml_driver.specs.Source.{is_blank}
 use Rattle.oxml_driver.specs.Reading.{behind_blanks, said_by, onto, text_from}

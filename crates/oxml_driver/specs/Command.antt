@@ -1,7 +1,7 @@
 -- What the command comes to: each status has its cause, and says what stands behind it.
-use Rattle.std.specs.Prelude.{◌≡◌, ◌⊎◌, ℕ, true, Some, List, [], ◌∷◌, ◌++◌, length, ◌≤◌, ◌<◌}
+use Rattle.std.specs.Prelude.{◌≡◌, ◌⊎◌, ℕ, true, Some, List, [], length, ◌≤◌, ◌<◌}
 use Rattle.oxml_base.specs.declared.outside.ShelfCall.TheVariants.{Load, Save}
-use Rattle.oxml_base.specs.Outside.{ShelfView, SinkView, Rose, SameHeld, SameBut, SameFaults, ShelfFails, HoldsMore, Gains, GainsPart, Puts}
+use Rattle.oxml_base.specs.Outside.{ShelfView, SinkView, Rose, SameHeld, SameBut, SameFaults, ShelfFails, HoldsMore, GainsPart, Puts}
 use Rattle.oxml_driver.specs.Build.{Compiles, PrintsNothing, default_sizes, left_out, most_bytes}
 use Rattle.oxml_driver.specs.Lines.{usage_line, write_fault_line, no_memory_line, read_fault_line, bytes_limit_line, refusal_line}
 use Rattle.oxml_driver.specs.Source.{Prints}

@@ -1,7 +1,7 @@
 -- What the parts of the command come to.
-use Rattle.std.specs.Prelude.{◌≡◌, ℕ, List, true, Some, length, ◌≤◌}
+use Rattle.std.specs.Prelude.{◌≡◌, ℕ, List}
 use Rattle.oxml_base.specs.Outside.{ShelfView, SinkView, Rose, GainsPart, Puts}
-use Rattle.oxml_driver.specs.Command.{World, Answers, GainsParts}
+use Rattle.oxml_driver.specs.Command.{Answers, GainsParts}
 use Rattle.oxml_driver.specs.Lines.{write_fault_line, no_memory_line}
 use Rattle.oxml_driver.specs.Words.{IsBuild}
 

@@ -1,4 +1,4 @@
-use Rattle.std.proofs.Common.{rules, ◌∙◌, ap, sym, arith}
+use Rattle.std.proofs.Common.{◌∙◌, sym, arith}
 use Rattle.oxml_driver.proofs.ReadingLemmas.{byte_read, escape_read, end_read, bad_read, none_read}
 use Rattle.oxml_driver.proofs.source.text_from.Goals as goal
 use Rattle.oxml_driver.proofs.source.text_from.Goals.{in-Byte+in_ok-push-in-Byte, in-Escape}
