@@ -23,10 +23,15 @@ fn segment(
 /// A program of these bytes, with the data `hi` and a newline, and 64 bytes each of area, local
 /// stack and call stack.
 fn image(alloc: Global, code: &[u8]) -> Result<Image, NoMemory> {
+    image_with(alloc, code, 8, b"hi\n")
+}
+
+/// The same, with these data in so many bytes.
+fn image_with(alloc: Global, code: &[u8], data_size: u64, data: &[u8]) -> Result<Image, NoMemory> {
     let mut segments = Items::new(alloc);
     let size = code.len() as u64;
     segments.push(segment(alloc, 0x40_0000, size, 5, code)?)?;
-    segments.push(segment(alloc, 0x4000_0000, 8, 6, b"hi\n")?)?;
+    segments.push(segment(alloc, 0x4000_0000, data_size, 6, data)?)?;
     segments.push(segment(alloc, 0x1_0000_0000, 64, 6, &[])?)?;
     segments.push(segment(alloc, 0x2_0000_0000, 64, 6, &[])?)?;
     segments.push(segment(alloc, 0x3_0000_0000, 64, 6, &[])?)?;
@@ -108,7 +113,7 @@ fn steps_are_counted(rt: HostRuntime) -> Result<(), Fail> {
 }
 
 /// Programs that fault at their last instruction, whose place is given from the entry.
-const FAULTS: [(u64, &[u8]); 14] = [
+const FAULTS: [(u64, &[u8]); 20] = [
     // nop has no row
     (0, &[0x90]),
     // mov rax, rcx: undefined
@@ -174,6 +179,54 @@ const FAULTS: [(u64, &[u8]); 14] = [
             0xf8,
         ],
     ),
+    // mov rax, -2^63; mov rdx, -1; mov rcx, -1; idiv rcx: 2^63 does not fit
+    (
+        30,
+        &[
+            0x48, 0xb8, 0, 0, 0, 0, 0, 0, 0, 0x80, 0x48, 0xba, 0xff, 0xff, 0xff, 0xff, 0xff, 0xff,
+            0xff, 0xff, 0x48, 0xb9, 0xff, 0xff, 0xff, 0xff, 0xff, 0xff, 0xff, 0xff, 0x48, 0xf7,
+            0xf9,
+        ],
+    ),
+    // mov rax, 1; shl rax, 1; je: a shift leaves the flags undefined
+    (
+        14,
+        &[
+            0x48, 0xb8, 1, 0, 0, 0, 0, 0, 0, 0, 0x48, 0xc1, 0xe0, 1, 0x0f, 0x84, 0, 0, 0, 0,
+        ],
+    ),
+    // a write of no bytes
+    (
+        40,
+        &[
+            0x48, 0xbf, 1, 0, 0, 0, 0, 0, 0, 0, 0x48, 0xbe, 0, 0, 0, 0x40, 0, 0, 0, 0, 0x48, 0xba,
+            0, 0, 0, 0, 0, 0, 0, 0, 0x48, 0xb8, 1, 0, 0, 0, 0, 0, 0, 0, 0x0f, 0x05,
+        ],
+    ),
+    // a write on channel 3
+    (
+        40,
+        &[
+            0x48, 0xbf, 3, 0, 0, 0, 0, 0, 0, 0, 0x48, 0xbe, 0, 0, 0, 0x40, 0, 0, 0, 0, 0x48, 0xba,
+            1, 0, 0, 0, 0, 0, 0, 0, 0x48, 0xb8, 1, 0, 0, 0, 0, 0, 0, 0, 0x0f, 0x05,
+        ],
+    ),
+    // a write of nine bytes, of which eight are there
+    (
+        40,
+        &[
+            0x48, 0xbf, 1, 0, 0, 0, 0, 0, 0, 0, 0x48, 0xbe, 0, 0, 0, 0x40, 0, 0, 0, 0, 0x48, 0xba,
+            9, 0, 0, 0, 0, 0, 0, 0, 0x48, 0xb8, 1, 0, 0, 0, 0, 0, 0, 0, 0x0f, 0x05,
+        ],
+    ),
+    // a write of bytes of the area while r15 is undefined
+    (
+        40,
+        &[
+            0x48, 0xbf, 1, 0, 0, 0, 0, 0, 0, 0, 0x48, 0xbe, 0, 0, 0, 0, 1, 0, 0, 0, 0x48, 0xba, 1,
+            0, 0, 0, 0, 0, 0, 0, 0x48, 0xb8, 1, 0, 0, 0, 0, 0, 0, 0, 0x0f, 0x05,
+        ],
+    ),
     // mov rax, 2; syscall: another number
     (10, &[0x48, 0xb8, 2, 0, 0, 0, 0, 0, 0, 0, 0x0f, 0x05]),
 ];
@@ -213,5 +266,40 @@ const CALL: [u8; 53] = [
 #[test]
 fn calls_return(rt: HostRuntime) -> Result<(), Fail> {
     ends(&rt, rt.alloc(), &CALL, &[], SimEnd::Exit(49), b"")?;
+    Ok(())
+}
+
+/// mov rdi, 2; mov rsi, 0x40000000; mov rdx, 40; mov rax, 1; syscall; mov rdi, 2; mov rax, 60;
+/// syscall: a program that fails.
+#[rattlefmt::skip]
+const FAIL: [u8; 64] = [
+    0x48, 0xbf, 2, 0, 0, 0, 0, 0, 0, 0,
+    0x48, 0xbe, 0, 0, 0, 0x40, 0, 0, 0, 0,
+    0x48, 0xba, 40, 0, 0, 0, 0, 0, 0, 0,
+    0x48, 0xb8, 1, 0, 0, 0, 0, 0, 0, 0,
+    0x0f, 0x05,
+    0x48, 0xbf, 2, 0, 0, 0, 0, 0, 0, 0,
+    0x48, 0xb8, 60, 0, 0, 0, 0, 0, 0, 0,
+    0x0f, 0x05,
+];
+
+#[test]
+fn a_failure_is_written_on_channel_2(rt: HostRuntime) -> Result<(), Fail> {
+    let alloc = rt.alloc();
+    let line = b"Fatal error: exception Division_by_zero\n";
+    let image = image_with(alloc, &FAIL, 40, line)?;
+    let mut out = Vec::new(alloc);
+    assert_eq!(rt;
+        simulate(alloc, &image, 100, &[], &mut out)?,
+        SimEnd::Exit(2)
+    );
+    let mut want = Vec::new(alloc);
+    for byte in line {
+        want.push(Put {
+            channel: 2,
+            byte: *byte,
+        })?;
+    }
+    assert_eq!(rt; out.as_slice(), want.as_slice());
     Ok(())
 }
