@@ -1,4 +1,4 @@
-use Rattle.std.proofs.Common.{◌≡◌, sym, subst}
+use Rattle.std.proofs.Common.{sym, subst}
 use Rattle.hm_unify.specs.States.{IsTable}
 use Rattle.hm_unify.proofs.tests.empty.Goals as goal
 
