@@ -1,15 +1,13 @@
 -- Where bindings end.
-use Rattle.std.proofs.Common.{◌≡◌, ℕ, zero, suc, ◌+◌, ◌-◌, ◌*◌, ◌%◌, ◌^◌, ◌<◌, ◌≤◌, List, length, Option, Some, None, get_or, refl, sym, ap, ◌∙◌, subst, arith, rules}
-use Rattle.std.specs.List.{slice_get}
+use Rattle.std.proofs.Common.{◌≡◌, ℕ, zero, suc, ◌+◌, ◌-◌, ◌^◌, ◌<◌, ◌≤◌, List, length, Option, Some, None, get_or, refl, sym, ap, ◌∙◌, subst, arith}
 use Rattle.std.specs.Option.{option_and_then}
 use Rattle.ml_types.specs.declared.node.TyId.{TyId}
 use Rattle.ml_types.specs.declared.node.TyNode.{TyNode}
 use Rattle.ml_types.specs.declared.node.TyNode.TheVariants.{Var, Con, Tuple, Arrow}
 use Rattle.ml_types.specs.Types.{Head, head_of}
-use Rattle.hm_unify.specs.declared.classes.End.{End}
-use Rattle.hm_unify.specs.declared.classes.End.TheVariants.{Free, Built}
+use Rattle.hm_unify.specs.declared.classes.End.TheVariants.{Built}
 use Rattle.hm_unify.specs.Solutions.{Bound, node_at, number_at, variable_of, link, Ends, here, there}
-use Rattle.hm_unify.specs.States.{rank, priority, IsTabled}
+use Rattle.hm_unify.specs.States.{rank, IsTabled}
 use Rattle.hm_unify.specs.Closing.{follow, end_at, kind, kind_by}
 
 pub Ends-here : (nodes : List TyNode) (bound : Bound) (x e : TyId) → link nodes bound x ≡ None → Ends nodes bound x e → x ≡ e

@@ -1,8 +1,7 @@
 -- Closed classes whose parts have shapes have a finite solution, and it is the least.
-use Rattle.std.proofs.Common.{◌≡◌, ℕ, zero, suc, ◌+◌, ◌<◌, ◌≤◌, ◌⊎◌, min, List, [], ◌∷◌, ◌++◌, length, Option, Some, None, refl, sym, ap, ◌∙◌, subst, inl, inr, ⊎_elim, arith, get_or}
+use Rattle.std.proofs.Common.{◌≡◌, ℕ, zero, suc, ◌<◌, ◌≤◌, ◌⊎◌, List, [], ◌∷◌, Option, Some, None, refl, sym, ap, ◌∙◌, subst, inl, inr, arith, get_or}
 use Rattle.std.specs.List.{slice_get}
 use Rattle.std.specs.Option.{option_and_then}
-use Rattle.std.proofs.lemmas.Option.{slice_get_cases}
 use Rattle.ml_types.specs.declared.node.TyId.{TyId}
 use Rattle.ml_types.specs.declared.node.TyNode.{TyNode}
 use Rattle.ml_types.specs.declared.node.TyNode.TheVariants.{Var}
@@ -10,14 +9,14 @@ use Rattle.ml_types.specs.Types.{Head, head_of, parts_of, Tree, Leaf, Node, Tree
 use Rattle.hm_unify.specs.declared.classes.End.{End}
 use Rattle.hm_unify.specs.declared.classes.End.TheVariants.{Free, Built}
 use Rattle.hm_unify.specs.declared.classes.Classes.{Classes}
-use Rattle.hm_unify.specs.Solutions.{Bound, Pairs, node_at, number_at, variable_of, link, Ends, Solves, Solution, HasFinite, HasInfinite, IsSolution, Equates, IsIdOf, Fits, IsTooLarge}
+use Rattle.hm_unify.specs.Solutions.{Bound, Pairs, node_at, number_at, variable_of, link, Solves, HasFinite, HasInfinite, IsSolution, Equates, IsIdOf}
 use Rattle.hm_unify.specs.States.{IsTabled}
-use Rattle.hm_unify.specs.Classes.{up, code, IsForest}
-use Rattle.hm_unify.specs.Closing.{Naming, kind, kind_by, end_at, class_of, Respects, HasRoot, IsBuiltRoot, IsClosing, IsClosure}
-use Rattle.hm_unify.specs.Shapes.{Shape, Shapes, free_shape, past_shape, built_shape, no_shape, more_shapes, HasSize}
-use Rattle.hm_unify.proofs.Ends.{Ends-end_at, Ends-end, end_at-link, end_at-self, number-var, var-number, headed, head-none}
+use Rattle.hm_unify.specs.Classes.{up, code}
+use Rattle.hm_unify.specs.Closing.{Naming, kind, kind_by, end_at, class_of, Respects, HasRoot, IsClosure}
+use Rattle.hm_unify.specs.Shapes.{Shape, Shapes, free_shape, past_shape, built_shape, no_shape, more_shapes}
+use Rattle.hm_unify.proofs.Ends.{Ends-end_at, Ends-end, end_at-link, end_at-self, var-number, headed}
 use Rattle.hm_unify.proofs.Joins.{code-injective}
-use Rattle.hm_unify.proofs.Starts.{id-from, Ends-same}
+use Rattle.hm_unify.proofs.Starts.{Ends-same}
 use Rattle.hm_unify.proofs.Shapes.{Respected, root_id}
 
 -- a closed naming relates the ids of one variable, and each bound variable to its id
@@ -76,7 +75,7 @@ HasInfinite-closure nodes bound tabled pairs classes seen k = (c, solution, k.cl
           heads = λ x y n m h j p q a b e. (agree x y n m h j (k.closing.roots x n h p a) (k.closing.roots y m j q b) e).0;
           parts = λ x y n m h j p q a b e. (agree x y n m h j (k.closing.roots x n h p a) (k.closing.roots y m j q b) e).1;
           one_variable = λ x y n p q. respects x y (class-variable nodes bound tabled k.root_of x y n p q);
-          bound_is = λ x y h. respects x y (class-link nodes bound tabled k.root_of x y h)
+          bound_is = λ x y h. respects x y (class-link nodes bound tabled k.root_of x y h);
         }
 
 mutual
@@ -255,5 +254,5 @@ Least-closure nodes bound tabled old pairs classes seen k came =
         record {
           nodes_are = λ x n h p q. nodes_by x n h (k.closing.roots x n h p q);
           one_variable = λ x y n p q. respects x y (class-variable nodes bound tabled k.root_of x y n p q);
-          bound_is = λ x y h. respects x y (class-link nodes bound tabled k.root_of x y h)
+          bound_is = λ x y h. respects x y (class-link nodes bound tabled k.root_of x y h);
         }

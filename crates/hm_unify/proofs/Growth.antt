@@ -1,17 +1,17 @@
 -- Tables of nodes that grow.
-use Rattle.std.proofs.Common.{◌≡◌, ℕ, zero, suc, ◌+◌, ◌-◌, ◌<◌, ◌≤◌, ◌⊎◌, Bool, true, false, cond, eqb, List, [], ◌∷◌, ◌++◌, length, take, Option, Some, None, refl, sym, ap, ◌∙◌, subst, inl, inr, ⊎_elim, arith, get_or, length-append}
+use Rattle.std.proofs.Common.{◌≡◌, ℕ, zero, suc, ◌+◌, ◌<◌, ◌≤◌, ◌⊎◌, true, false, cond, eqb, List, [], ◌∷◌, ◌++◌, length, Option, Some, None, refl, sym, ap, ◌∙◌, inl, inr, ⊎_elim, arith, get_or, length-append}
 use Rattle.std.specs.List.{slice_get}
 use Rattle.std.specs.Option.{option_and_then}
-use Rattle.std.proofs.lemmas.Option.{slice_get_within, slice_get_past}
+use Rattle.std.proofs.lemmas.Option.{slice_get_within}
 use Rattle.std.proofs.lemmas.Bool.{cases_eq, eq-eqb}
 use Rattle.std.proofs.lemmas.Bool.Decides.{eqb_tells}
 use Rattle.ml_types.specs.declared.node.TyId.{TyId}
 use Rattle.ml_types.specs.declared.node.TyNode.{TyNode}
 use Rattle.ml_types.specs.declared.node.TyNode.TheVariants.{Var, Con, Tuple, Arrow}
-use Rattle.ml_types.specs.Types.{Head, ConHead, TupleHead, ArrowHead, head_of, parts_of, Tree, Leaf, Node, Trees, Nil, Cons, trees}
-use Rattle.hm_unify.specs.Solutions.{Bound, Pairs, node_at, number_at, variable_of, link, Solves, HasFinite}
+use Rattle.ml_types.specs.Types.{Head, ConHead, TupleHead, ArrowHead, head_of, parts_of, Tree, Leaf, Node, Cons, trees}
+use Rattle.hm_unify.specs.Solutions.{Bound, node_at, variable_of, Solves}
 use Rattle.hm_unify.specs.States.{IsTabled, IsSound, IsTable, rank}
-use Rattle.hm_unify.proofs.Ends.{link-number, var-number, number-var, headed}
+use Rattle.hm_unify.proofs.Ends.{link-number, var-number, number-var}
 use Rattle.hm_unify.proofs.Starts.{id-from}
 
 -- a place of a list with one item more
@@ -69,14 +69,14 @@ var_tree nodes bound t s k = by (find_var nodes k)
           tree = t w.0;
           built = λ h e. absurd cc;
           variable = λ j x e p. absurd (let g : k ≡ j = cc in none x.0 (p ∙ ap (λ i. Some (Var i)) (sym g)));
-          bound_to = λ j y e p. (let g : k ≡ j = cc in let v : Some w.0 ≡ Some y = sym w.1 ∙ ap (λ i. get_or bound i None) g ∙ p in let u : w.0 ≡ y = cc in ap t u)
+          bound_to = λ j y e p. (let g : k ≡ j = cc in let v : Some w.0 ≡ Some y = sym w.1 ∙ ap (λ i. get_or bound i None) g ∙ p in let u : w.0 ≡ y = cc in ap t u);
         }
     free_by none (inr w) =
         record {
           tree = Leaf 0;
           built = λ h e. absurd cc;
           variable = λ j x e p. absurd (let g : k ≡ j = cc in none x.0 (p ∙ ap (λ i. Some (Var i)) (sym g)));
-          bound_to = λ j y e p. absurd (let g : k ≡ j = cc in let v : None ≡ Some y = sym w ∙ ap (λ i. get_or bound i None) g ∙ p in cc)
+          bound_to = λ j y e p. absurd (let g : k ≡ j = cc in let v : None ≡ Some y = sym w ∙ ap (λ i. get_or bound i None) g ∙ p in cc);
         }
 
     by : ((i : ℕ) × (slice_get nodes i ≡ Some (Var k))) ⊎ ((i : ℕ) → slice_get nodes i ≡ Some (Var k) → ⊥) → NewTree nodes bound t (Var k)
@@ -86,7 +86,7 @@ var_tree nodes bound t s k = by (find_var nodes k)
           tree = t z;
           built = λ h e. absurd cc;
           variable = λ j x e p. (let g : k ≡ j = cc in s.one_variable z x k w.1 (p ∙ ap (λ i. Some (Var i)) (sym g)));
-          bound_to = λ j y e p. (let g : k ≡ j = cc in s.bound_is z y (ap (option_and_then (λ i. get_or bound i None)) (var-number nodes z k w.1) ∙ ap (λ i. get_or bound i None) g ∙ p))
+          bound_to = λ j y e p. (let g : k ≡ j = cc in s.bound_is z y (ap (option_and_then (λ i. get_or bound i None)) (var-number nodes z k w.1) ∙ ap (λ i. get_or bound i None) g ∙ p));
         }
     by (inr none) = free_by none (target_cases (get_or bound k None))
 
@@ -96,7 +96,7 @@ built_tree nodes bound t n h e v =
       tree = Node h (trees t (parts_of n));
       built = λ j q. (let g : Some h ≡ Some j = sym e ∙ q in let u : h ≡ j = cc in ap (λ i. Node i (trees t (parts_of n))) u);
       variable = λ k x q p. absurd (let g : None ≡ Some k = sym v ∙ ap variable_of q in cc);
-      bound_to = λ k y q p. absurd (let g : None ≡ Some k = sym v ∙ ap variable_of q in cc)
+      bound_to = λ k y q p. absurd (let g : None ≡ Some k = sym v ∙ ap variable_of q in cc);
     }
 
 new_tree : (nodes : List TyNode) (bound : Bound) (t : TyId → Tree) → Solves nodes bound t → (n : TyNode) → NewTree nodes bound t n
@@ -129,7 +129,7 @@ Solves-push nodes bound bound' n t k s same parts w =
     record {
       nodes_are = λ x m h p q. nodes_by x m h q (at_push nodes n m x.0 p);
       one_variable = λ x y i p q. variable_by x y i (at_push nodes n (Var i) x.0 p) (at_push nodes n (Var i) y.0 q);
-      bound_is = λ x y h. (let l = link-number (nodes ++ n ∷ []) bound' x y h in bound_by x y l.0 (sym (same l.0) ∙ l.2) (at_push nodes n (Var l.0) x.0 (number-var (nodes ++ n ∷ []) x l.0 l.1)))
+      bound_is = λ x y h. (let l = link-number (nodes ++ n ∷ []) bound' x y h in bound_by x y l.0 (sym (same l.0) ∙ l.2) (at_push nodes n (Var l.0) x.0 (number-var (nodes ++ n ∷ []) x l.0 l.1)));
     }
   where
     u : TyId → Tree
@@ -164,9 +164,9 @@ IsSound-push nodes bound bound' n k same longer covers parts =
         parts_in = λ x m i p h q. parts_by x m i p q (at_push nodes n m x.0 h);
         variables_in = λ x i h. variables_by x i (at_push nodes n (Var i) x.0 h);
         targets_in = λ i y h. (let g = k.tabled.targets_in i y (sym (same i) ∙ h) in omega (arith, g, length_push nodes n));
-        rising = λ i j y h p. rising_by i j y (sym (same i) ∙ h) (at_push nodes n (Var j) y.0 p)
+        rising = λ i j y h p. rising_by i j y (sym (same i) ∙ h) (at_push nodes n (Var j) y.0 p);
       };
-      solvable = (_, Solves-push nodes bound bound' n k.solvable.0 k.tabled k.solvable.1 same parts (new_tree nodes bound k.solvable.0 k.solvable.1 n), tt)
+      solvable = (_, Solves-push nodes bound bound' n k.solvable.0 k.tabled k.solvable.1 same parts (new_tree nodes bound k.solvable.0 k.solvable.1 n), tt);
     }
   where
     parts_by : (x : TyId) (m : TyNode) (i : ℕ) (p : TyId) → slice_get (parts_of m) i ≡ Some p → (slice_get nodes x.0 ≡ Some m) ⊎ ((x.0 ≡ length nodes) × (n ≡ m)) → p.0 < length (nodes ++ n ∷ [])
@@ -235,13 +235,17 @@ IsSound-new nodes bound k free covers =
         parts_in = k.parts_in;
         variables_in = λ x n h. covers x.0 (Var n) n h refl;
         targets_in = λ n y h. absurd (not_bound n y h);
-        rising = λ n j y h p. absurd (not_bound n y h)
+        rising = λ n j y h p. absurd (not_bound n y h);
       };
-      solvable = (grown nodes k, record {
-        nodes_are = λ x n h p q. grown_node nodes k x n p ∙ node_tree_head (grow nodes (k.height x)) n h q ∙ ap (Node h) (grown_trees nodes k x n p);
-        one_variable = λ x y n p q. grown_node nodes k x (Var n) p ∙ sym (grown_node nodes k y (Var n) q);
-        bound_is = λ x y h. (let l = link-number nodes bound x y h in absurd (not_bound l.0 y l.2))
-      }, tt)
+      solvable = (
+        grown nodes k,
+        record {
+          nodes_are = λ x n h p q. grown_node nodes k x n p ∙ node_tree_head (grow nodes (k.height x)) n h q ∙ ap (Node h) (grown_trees nodes k x n p);
+          one_variable = λ x y n p q. grown_node nodes k x (Var n) p ∙ sym (grown_node nodes k y (Var n) q);
+          bound_is = λ x y h. (let l = link-number nodes bound x y h in absurd (not_bound l.0 y l.2));
+        },
+        tt,
+      );
     }
   where
     not_bound : (n : ℕ) (y : TyId) → get_or bound n None ≡ Some y → ⊥
@@ -262,11 +266,15 @@ IsSound-longer nodes bound bound' k same longer =
         parts_in = k.tabled.parts_in;
         variables_in = λ x n h. (let g = k.tabled.variables_in x n h in omega (arith, g, longer));
         targets_in = λ n y h. k.tabled.targets_in n y (sym (same n) ∙ h);
-        rising = λ n j y h p. k.tabled.rising n j y (sym (same n) ∙ h) p
+        rising = λ n j y h p. k.tabled.rising n j y (sym (same n) ∙ h) p;
       };
-      solvable = (k.solvable.0, record {
-        nodes_are = k.solvable.1.nodes_are;
-        one_variable = k.solvable.1.one_variable;
-        bound_is = λ x y h. (let l = link-number nodes bound' x y h in k.solvable.1.bound_is x y (ap (option_and_then (λ j. get_or bound j None)) l.1 ∙ sym (same l.0) ∙ l.2))
-      }, tt)
+      solvable = (
+        k.solvable.0,
+        record {
+          nodes_are = k.solvable.1.nodes_are;
+          one_variable = k.solvable.1.one_variable;
+          bound_is = λ x y h. (let l = link-number nodes bound' x y h in k.solvable.1.bound_is x y (ap (option_and_then (λ j. get_or bound j None)) l.1 ∙ sym (same l.0) ∙ l.2));
+        },
+        tt,
+      );
     }

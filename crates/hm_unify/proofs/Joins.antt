@@ -1,17 +1,15 @@
 -- Joining two classes keeps what the closure keeps.
-use Rattle.std.proofs.Common.{◌≡◌, ℕ, ◌+◌, ◌<◌, ◌≤◌, ◌⊎◌, List, [], ◌∷◌, ◌++◌, length, take, Option, Some, None, Bool, true, false, cond, eqb, refl, sym, ap, ◌∙◌, subst, inl, inr, ⊎_elim, arith}
+use Rattle.std.proofs.Common.{◌≡◌, ℕ, ◌<◌, List, length, Some, true, false, cond, eqb, sym, ap, ◌∙◌, subst, ⊎_elim, arith}
 use Rattle.std.specs.List.{slice_get}
-use Rattle.std.proofs.lemmas.Bool.{eq-eqb, cases_eq}
 use Rattle.std.proofs.lemmas.Bool.Decides.{eqb_tells}
 use Rattle.ml_types.specs.declared.node.TyId.{TyId}
 use Rattle.ml_types.specs.declared.node.TyNode.{TyNode}
-use Rattle.ml_types.specs.Types.{Head, head_of, parts_of, Tree, Leaf, Node, trees}
+use Rattle.ml_types.specs.Types.{Head, head_of, Tree}
 use Rattle.hm_unify.specs.declared.classes.End.{End}
 use Rattle.hm_unify.specs.declared.classes.End.TheVariants.{Free, Built}
-use Rattle.hm_unify.specs.Solutions.{Bound, Pairs, node_at, IsSolution, Equates, IsIdOf}
-use Rattle.hm_unify.specs.Classes.{code, moved, joined}
+use Rattle.hm_unify.specs.Solutions.{Bound, Pairs, node_at, IsSolution, Equates}
+use Rattle.hm_unify.specs.Classes.{code, moved}
 use Rattle.hm_unify.specs.Closing.{Naming, Respects, HasRoot, IsBuiltRoot, IsClosing, IsBuiltIn, DoesParts, ToDo, their_parts}
-use Rattle.hm_unify.proofs.Equations.{Equates-front, Equates-back, Equates-append}
 
 pub code-injective : (a b : End) → code a ≡ code b → a ≡ b
 code-injective (Free n) (Free m) h = let e : n ≡ m = omega arith in ap Free e
@@ -68,7 +66,7 @@ IsBuiltRoot-stays nodes name from to r other b =
       head = b.head;
       at_root = b.at_root;
       has_head = b.has_head;
-      itself = ap (moved from to) b.itself ∙ moved-other from to (Built r) other
+      itself = ap (moved from to) b.itself ∙ moved-other from to (Built r) other;
     }
 
 pub IsClosing-join : (nodes : List TyNode) (bound : Bound) (pairs : Pairs) (name : Naming) (todo todo' : Pairs) (u v : TyId) (from to : End) → IsClosing nodes bound pairs name todo → name u ≡ from → name v ≡ to → (from ≡ to → ⊥) → v.0 < length nodes → ((d : TyId → Tree) → Equates d todo → d u ≡ d v) → ((d : TyId → Tree) → Respects (renamed name from to) d → Equates d todo' → Equates d todo) → ((d : TyId → Tree) → IsSolution nodes bound d → Equates d pairs → Equates d todo') → ((x : TyId) (n : TyNode) (h : Head) → node_at nodes x ≡ Some n → head_of n ≡ Some h → name x ≡ from → HasRoot nodes (renamed name from to) todo' x n h) → IsClosing nodes bound pairs (renamed name from to) todo'
@@ -78,7 +76,7 @@ IsClosing-join nodes bound pairs name todo todo' u v from to k nu nv apart v_in 
       forced = forth;
       covers = λ d r e. k.covers d (Respects-before name from to d r) (back d r e);
       roots = λ x n h p q. roots_by x n h p q (Moves-cases from to (name x));
-      built = λ x r x_in e. built_by x r x_in e (Moves-cases from to (name x))
+      built = λ x r x_in e. built_by x r x_in e (Moves-cases from to (name x));
     }
   where
     roots_by : (x : TyId) (n : TyNode) (h : Head) → node_at nodes x ≡ Some n → head_of n ≡ Some h → Moves from to (name x) → HasRoot nodes (renamed name from to) todo' x n h
@@ -91,7 +89,7 @@ IsClosing-join nodes bound pairs name todo todo' u v from to k nu nv apart v_in 
           is_root = b ∙ o.is_root;
           at_root = o.at_root;
           head = o.head;
-          parts = λ d r e. o.parts d (Respects-before name from to d r) (back d r e)
+          parts = λ d r e. o.parts d (Respects-before name from to d r) (back d r e);
         }
 
     built_by : (x : TyId) (r : ℕ) → x.0 < length nodes → renamed name from to x ≡ Built r → Moves from to (name x) → IsBuiltRoot nodes (renamed name from to) r

@@ -1,5 +1,5 @@
 -- What a walk of pairs leaves.
-use Rattle.std.proofs.Common.{◌≡◌, ℕ, ◌+◌, ◌<◌, ◌≤◌, List, [], ◌∷◌, ◌++◌, length, Option, Some, None, get_or, refl, sym, ap, ◌∙◌, subst, arith, length-append}
+use Rattle.std.proofs.Common.{◌≡◌, ℕ, ◌+◌, ◌<◌, List, [], ◌∷◌, ◌++◌, length, Some, None, get_or, refl, sym, ap, ◌∙◌, subst, arith, length-append}
 use Rattle.std.specs.List.{slice_get}
 use Rattle.std.proofs.lemmas.List.{get_or_past}
 use Rattle.ml_types.specs.declared.node.TyId.{TyId}
@@ -8,7 +8,7 @@ use Rattle.ml_types.specs.Types.{parts_of}
 use Rattle.ml_types.specs.declared.node.TyNode.{TyNode}
 use Rattle.hm_unify.specs.Solutions.{Bound, Pairs, Fits}
 use Rattle.hm_unify.specs.Walks.{WalkPairs}
-use Rattle.hm_unify.specs.States.{State, IsTabled, IsSound, Equated, AddsFresh}
+use Rattle.hm_unify.specs.States.{IsTabled, IsSound, Equated, AddsFresh}
 use Rattle.hm_unify.proofs.Growth.{IsSound-push, get_or_push}
 use Rattle.hm_unify.proofs.Walks.{WalkPairs-forth, WalkPairs-back, WalkPairs-keeps}
 
@@ -20,7 +20,7 @@ Equated-walk nodes m m' pairs w f =
       keeps = λ n y h. WalkPairs-keeps nodes m pairs m' w n y h;
       forth = λ t s. WalkPairs-forth nodes m pairs m' t w s;
       back = λ t s e. WalkPairs-back nodes m pairs m' t w s e;
-      small = f
+      small = f;
     }
 
 pub IsSound-walk : (nodes : List TyNode) (m m' : Bound) (pairs : Pairs) → IsTabled nodes m' → WalkPairs nodes m pairs m' → Fits nodes m pairs → IsSound nodes m'
@@ -53,5 +53,5 @@ AddsFresh-from nodes nodes' m m' number id k e a b i =
       number = number;
       adds = record { nodes = a; at_end = i; bound = λ n. ap (λ v. get_or v n None) b ∙ get_or_push m None n };
       unused = λ x h. (let g = k.tabled.variables_in x number h in absurd (omega (arith, g, e)));
-      free = ap (λ v. get_or v number None) b ∙ get_or_push m None number ∙ get_or_past m number None (omega (arith, e))
+      free = ap (λ v. get_or v number None) b ∙ get_or_push m None number ∙ get_or_past m number None (omega (arith, e));
     }

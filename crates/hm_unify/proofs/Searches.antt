@@ -1,10 +1,10 @@
 -- The steps of a search for sizes.
-use Rattle.std.proofs.Common.{◌≡◌, ℕ, zero, suc, ◌+◌, ◌<◌, ◌≤◌, ◌⊎◌, min, List, [], ◌∷◌, ◌++◌, length, take, Option, Some, None, Bool, true, false, cond, eqb, refl, sym, ap, ◌∙◌, subst, inl, inr, ⊎_elim, arith}
+use Rattle.std.proofs.Common.{◌≡◌, ℕ, ◌+◌, ◌⊎◌, min, List, [], ◌∷◌, ◌++◌, take, Option, Some, None, true, false, cond, eqb, refl, sym, ap, ◌∙◌, subst, inl, inr, ⊎_elim, arith}
 use Rattle.std.specs.List.{slice_get}
 use Rattle.std.proofs.lemmas.Bool.Decides.{eqb_tells}
 use Rattle.ml_types.specs.declared.node.TyId.{TyId}
 use Rattle.ml_types.specs.declared.node.TyNode.{TyNode}
-use Rattle.ml_types.specs.Types.{Head, head_of, parts_of, Tree, Leaf, Node, Trees, Nil, Cons, trees, tree_size, trees_size}
+use Rattle.ml_types.specs.Types.{parts_of, Tree, Leaf, Node, Nil, trees, tree_size, trees_size}
 use Rattle.hm_unify.specs.declared.classes.End.{End}
 use Rattle.hm_unify.specs.declared.classes.End.TheVariants.{Free, Built}
 use Rattle.hm_unify.specs.declared.classes.Classes.{Classes}
@@ -12,11 +12,11 @@ use Rattle.hm_unify.specs.declared.measure.Frame.{Frame}
 use Rattle.hm_unify.specs.declared.measure.Mark.{Mark}
 use Rattle.hm_unify.specs.declared.measure.Mark.TheVariants.{Open, Done}
 use Rattle.hm_unify.specs.declared.measure.Marks.{Marks}
-use Rattle.hm_unify.specs.Solutions.{Bound, Pairs, node_at, Solves, IsSolution, Equates, NoFinite}
-use Rattle.hm_unify.specs.Closing.{Naming, class_of, Respects, IsBuiltRoot, IsClosing, IsClosure}
-use Rattle.hm_unify.specs.Shapes.{Shape, Shapes, free_shape, past_shape, built_shape, no_shape, more_shapes, HasSize, mark_at, IsFrame, AreFrames, FramesWithin, IsBelow, first_of, Leads, LinkedFrom, Linked, IsNodeOf, IsMarked, IsSearching, Finds, FindsRoot}
+use Rattle.hm_unify.specs.Solutions.{Bound, Pairs, Solves, IsSolution, Equates}
+use Rattle.hm_unify.specs.Closing.{Naming, class_of, IsBuiltRoot, IsClosure}
+use Rattle.hm_unify.specs.Shapes.{Shapes, free_shape, built_shape, no_shape, HasSize, mark_at, IsFrame, IsBelow, IsNodeOf, IsMarked, IsSearching, Finds, FindsRoot}
 use Rattle.hm_unify.proofs.Equations.{snoc, take-next, take-end}
-use Rattle.hm_unify.proofs.Shapes.{Shapes-snoc, trees_size-snoc, Respected, root_id, Leads-none, Linked-pop, Linked-push, Leads-push, Leads-linked, AreFrames-front, AreFrames-push, first_of-front, first_of-push, first_of-more, IsNodeOf-front, IsNodeOf-more, IsNodeOf-last}
+use Rattle.hm_unify.proofs.Shapes.{Shapes-snoc, trees_size-snoc, Respected, Leads-none, Linked-pop, Linked-push, Leads-push, Leads-linked, AreFrames-front, AreFrames-push, first_of-front, first_of-push, first_of-more, IsNodeOf-front, IsNodeOf-more, IsNodeOf-last}
 
 -- finite types are a solution among infinite ones too
 pub IsSolution-finite : (nodes : List TyNode) (bound : Bound) (t : TyId → Tree) → Solves nodes bound t → IsSolution nodes bound t
@@ -25,7 +25,7 @@ IsSolution-finite nodes bound t s =
       heads = λ x y n m h k p q a b e. (let w : Node h (trees t (parts_of n)) ≡ Node k (trees t (parts_of m)) = sym (s.nodes_are x n h p a) ∙ e ∙ s.nodes_are y m k q b in cc);
       parts = λ x y n m h k p q a b e. (let w : Node h (trees t (parts_of n)) ≡ Node k (trees t (parts_of m)) = sym (s.nodes_are x n h p a) ∙ e ∙ s.nodes_are y m k q b in cc);
       one_variable = s.one_variable;
-      bound_is = s.bound_is
+      bound_is = s.bound_is;
     }
 
 pub Respected-closure : (nodes : List TyNode) (bound : Bound) (pairs : Pairs) (classes : Classes) (seen : Pairs) (k : IsClosure nodes bound pairs classes [] seen) (t : TyId → Tree) → Solves nodes bound t → Equates t pairs → Respected nodes (class_of nodes bound k.root_of) t
@@ -60,7 +60,7 @@ IsSearching-finish nodes name marks marks' rest f top n s k p q e set =
       frames = (AreFrames-front nodes name rest f k.frames).0;
       linked = Leads-linked nodes name rest f.node (Linked-pop nodes name rest f k.linked);
       bottom = first_of-front rest f top k.bottom;
-      marked = record { done = λ r z h. done_by r z h (set_here marks marks' f.node (Done s) set r); opened = λ r h. open_by r h (set_here marks marks' f.node (Done s) set r) }
+      marked = record { done = λ r z h. done_by r z h (set_here marks marks' f.node (Done s) set r); opened = λ r h. open_by r h (set_here marks marks' f.node (Done s) set r) };
     }
   where
     done_by : (r z : ℕ) → mark_at marks' r ≡ Some (Done z) → ((f.node ≡ r) × (mark_at marks' r ≡ Some (Done s))) ⊎ ((f.node ≡ r → ⊥) × (mark_at marks' r ≡ mark_at marks r)) → HasSize nodes name (Built r) z
@@ -88,7 +88,7 @@ IsFrame-past nodes name f g n p s k at part has gn gx gs =
       itself = subst (λ r. name (record { 0 = r }) ≡ Built r) (sym gn) k.itself;
       trees = snoc k.trees has.0;
       shapes = subst (λ xs. Shapes nodes name xs (snoc k.trees has.0)) (sym more) (Shapes-snoc nodes name (take f.next (parts_of k.node)) k.trees p has.0 k.shapes has.1);
-      size = sizes (trees_size k.trees) (tree_size has.0) (trees_size (snoc k.trees has.0)) f.size s g.size k.size has.2 gs (trees_size-snoc k.trees has.0)
+      size = sizes (trees_size k.trees) (tree_size has.0) (trees_size (snoc k.trees has.0)) f.size s g.size k.size has.2 gs (trees_size-snoc k.trees has.0);
     }
   where
     sizes : (a b ab fs s' gs' : ℕ) → fs ≡ min a 2000 → s' ≡ min b 2001 → gs' ≡ min (min fs 2000 + min s' 2001) 2000 → ab ≡ a + b → gs' ≡ min ab 2000
@@ -102,8 +102,8 @@ IsSearching-past nodes name marks rest f g top n p s k at part has gn gx gs =
       bottom = first_of-push rest f g top k.bottom gn;
       marked = record {
         done = k.marked.done;
-        opened = λ r h. ⊎_elim (λ m. IsNodeOf-more rest g r m) (λ e. IsNodeOf-last rest g r (gn ∙ e)) (IsNodeOf-front rest f r (k.marked.opened r h))
-      }
+        opened = λ r h. ⊎_elim (λ m. IsNodeOf-more rest g r m) (λ e. IsNodeOf-last rest g r (gn ∙ e)) (IsNodeOf-front rest f r (k.marked.opened r h));
+      };
     }
 
 below : (nodes : List TyNode) (name : Naming) (f : Frame) (n : TyNode) (p : TyId) (r : ℕ) → slice_get nodes f.node ≡ Some n → slice_get (parts_of n) f.next ≡ Some p → name p ≡ Built r → IsBuiltRoot nodes name r → IsBelow nodes name f r
@@ -124,7 +124,7 @@ IsFrame-enter nodes name g r b gn gx gs =
       itself = subst (λ v. name (record { 0 = v }) ≡ Built v) (sym gn) b.itself;
       trees = Nil;
       shapes = subst (λ i. Shapes nodes name (take i (parts_of b.node)) Nil) (sym gx) no_shape;
-      size = gs
+      size = gs;
     }
 
 entered : (nodes : List TyNode) (name : Naming) (marks marks' : Marks) (stack stack' : List Frame) (r : ℕ) → IsMarked nodes name marks stack → Sets marks marks' r Open → IsNodeOf stack' r → ((q : ℕ) → IsNodeOf stack q → IsNodeOf stack' q) → IsMarked nodes name marks' stack'
@@ -146,7 +146,7 @@ IsSearching-enter nodes name marks marks' rest f g top n p r k at part class b s
       frames = AreFrames-push nodes name (rest ++ f ∷ []) g k.frames (IsFrame-enter nodes name g r b gn gx gs);
       linked = Linked-push nodes name (rest ++ f ∷ []) g r leads (sym gn);
       bottom = first_of-more rest f g top k.bottom;
-      marked = entered nodes name marks marks' (rest ++ f ∷ []) ((rest ++ f ∷ []) ++ g ∷ []) r k.marked set (IsNodeOf-last (rest ++ f ∷ []) g r gn) (λ q h. IsNodeOf-more (rest ++ f ∷ []) g q h)
+      marked = entered nodes name marks marks' (rest ++ f ∷ []) ((rest ++ f ∷ []) ++ g ∷ []) r k.marked set (IsNodeOf-last (rest ++ f ∷ []) g r gn) (λ q h. IsNodeOf-more (rest ++ f ∷ []) g q h);
     }
 
 pub IsSearching-start : (nodes : List TyNode) (name : Naming) (marks marks' : Marks) (g : Frame) (r : ℕ) → IsMarked nodes name marks [] → IsBuiltRoot nodes name r → Sets marks marks' r Open → g.node ≡ r → g.next ≡ 0 → g.size ≡ 0 → IsSearching nodes name marks' (g ∷ []) r
@@ -155,7 +155,7 @@ IsSearching-start nodes name marks marks' g r k b set gn gx gs =
       frames = (IsFrame-enter nodes name g r b gn gx gs, tt);
       linked = tt;
       bottom = gn;
-      marked = entered nodes name marks marks' [] (g ∷ []) r k set (inl gn) (λ q h. absurd h)
+      marked = entered nodes name marks marks' [] (g ∷ []) r k set (inl gn) (λ q h. absurd h);
     }
 
 pub HasSize-free : (nodes : List TyNode) (name : Naming) (e : End) (m : ℕ) → e ≡ Free m → HasSize nodes name e 1

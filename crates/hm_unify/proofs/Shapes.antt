@@ -1,17 +1,14 @@
 -- Shapes of classes, and stacks of frames.
-use Rattle.std.proofs.Common.{◌≡◌, ℕ, zero, suc, ◌+◌, ◌<◌, ◌≤◌, ◌⊎◌, min, List, [], ◌∷◌, ◌++◌, length, take, Option, Some, None, refl, sym, ap, ◌∙◌, subst, inl, inr, ⊎_elim, arith}
+use Rattle.std.proofs.Common.{◌≡◌, ℕ, zero, suc, ◌+◌, ◌<◌, ◌≤◌, ◌⊎◌, List, [], ◌∷◌, ◌++◌, Some, refl, sym, ap, ◌∙◌, subst, inl, inr, ⊎_elim, arith}
 use Rattle.std.specs.List.{slice_get}
 use Rattle.ml_types.specs.declared.node.TyId.{TyId}
 use Rattle.ml_types.specs.declared.node.TyNode.{TyNode}
-use Rattle.ml_types.specs.Types.{Head, head_of, parts_of, Tree, Leaf, Node, Trees, Nil, Cons, trees, tree_size, trees_size}
-use Rattle.hm_unify.specs.declared.classes.End.{End}
-use Rattle.hm_unify.specs.declared.classes.End.TheVariants.{Free, Built}
-use Rattle.hm_unify.specs.declared.classes.Classes.{Classes}
+use Rattle.ml_types.specs.Types.{Head, head_of, parts_of, Tree, Node, Trees, Nil, Cons, trees, tree_size, trees_size}
 use Rattle.hm_unify.specs.declared.measure.Frame.{Frame}
-use Rattle.hm_unify.specs.Solutions.{Bound, Pairs, node_at, Solves, IsSolution, Equates, NoFinite}
-use Rattle.hm_unify.specs.Closing.{Naming, class_of, Respects, IsBuiltRoot, IsClosing, IsClosure}
-use Rattle.hm_unify.specs.Shapes.{Shape, Shapes, free_shape, past_shape, built_shape, no_shape, more_shapes, HasSize, IsFrame, AreFrames, FramesWithin, IsBelow, first_of, Leads, LinkedFrom, Linked, IsNodeOf}
-use Rattle.hm_unify.proofs.Equations.{snoc, take-next, take-end}
+use Rattle.hm_unify.specs.Solutions.{node_at}
+use Rattle.hm_unify.specs.Closing.{Naming, Respects}
+use Rattle.hm_unify.specs.Shapes.{Shape, Shapes, no_shape, more_shapes, IsFrame, AreFrames, FramesWithin, IsBelow, first_of, Leads, Linked, IsNodeOf}
+use Rattle.hm_unify.proofs.Equations.{snoc}
 
 pub Shapes-snoc : (nodes : List TyNode) (name : Naming) (xs : List TyId) (ts : Trees) (x : TyId) (t : Tree) → Shapes nodes name xs ts → Shape nodes name (name x) t → Shapes nodes name (xs ++ x ∷ []) (snoc ts t)
 unfolding snoc

@@ -1,10 +1,10 @@
 -- Sizes of the trees for which ids stand.
-use Rattle.std.proofs.Common.{◌≡◌, ℕ, zero, suc, ◌+◌, ◌-◌, ◌<◌, ◌≤◌, min, List, [], ◌∷◌, ◌++◌, length, take, Option, Some, None, refl, sym, ap, ◌∙◌, subst, arith}
+use Rattle.std.proofs.Common.{◌≡◌, ℕ, zero, suc, ◌+◌, ◌-◌, ◌<◌, ◌≤◌, min, List, [], ◌∷◌, ◌++◌, take, Some, None, refl, sym, ap, ◌∙◌, subst, arith}
 use Rattle.std.specs.List.{slice_get}
 use Rattle.ml_types.specs.declared.node.TyId.{TyId}
 use Rattle.ml_types.specs.declared.node.TyNode.{TyNode}
 use Rattle.ml_types.specs.declared.node.TyNode.TheVariants.{Var}
-use Rattle.ml_types.specs.Types.{Head, head_of, parts_of, Tree, Leaf, Node, Trees, Nil, Cons, tree_size, trees_size}
+use Rattle.ml_types.specs.Types.{parts_of, Tree, Trees, Nil, Cons, tree_size, trees_size}
 use Rattle.hm_unify.specs.Solutions.{Bound, node_at, Ends, Stands, StandAll, variable, built, none, more}
 use Rattle.hm_unify.proofs.Ends.{Ends-unique}
 use Rattle.hm_unify.proofs.Equations.{take-next, take-end}

@@ -1,18 +1,17 @@
 -- The closure where it begins.
-use Rattle.std.proofs.Common.{◌≡◌, ℕ, ◌+◌, ◌<◌, ◌≤◌, ◌⊎◌, List, [], ◌∷◌, ◌++◌, length, Option, Some, None, refl, sym, ap, ◌∙◌, subst, inl, inr, arith, get_or}
+use Rattle.std.proofs.Common.{◌≡◌, ℕ, ◌<◌, ◌≤◌, ◌⊎◌, List, [], length, Option, Some, None, refl, sym, ap, ◌∙◌, inl, inr, arith, get_or}
 use Rattle.std.specs.List.{slice_get}
 use Rattle.std.specs.Option.{option_and_then}
 use Rattle.std.proofs.lemmas.Option.{slice_get_cases}
 use Rattle.ml_types.specs.declared.node.TyId.{TyId}
 use Rattle.ml_types.specs.declared.node.TyNode.{TyNode}
-use Rattle.ml_types.specs.declared.node.TyNode.TheVariants.{Var}
-use Rattle.ml_types.specs.Types.{Head, head_of, parts_of, Tree, trees}
+use Rattle.ml_types.specs.Types.{Tree}
 use Rattle.hm_unify.specs.declared.classes.End.{End}
-use Rattle.hm_unify.specs.declared.classes.End.TheVariants.{Free, Built}
+use Rattle.hm_unify.specs.declared.classes.End.TheVariants.{Built}
 use Rattle.hm_unify.specs.declared.classes.Classes.{Classes}
-use Rattle.hm_unify.specs.Solutions.{Bound, Pairs, node_at, number_at, variable_of, link, Ends, here, there, IsSolution, Equates, IsIdOf}
-use Rattle.hm_unify.specs.Classes.{up, IsForest}
-use Rattle.hm_unify.specs.Closing.{Naming, kind, kind_by, end_at, class_of, Respects, HasRoot, IsBuiltRoot, IsClosing, IsSeen, IsClosure, PairsWithin}
+use Rattle.hm_unify.specs.Solutions.{Bound, Pairs, node_at, number_at, variable_of, link, Ends, here, there, IsSolution}
+use Rattle.hm_unify.specs.Classes.{up}
+use Rattle.hm_unify.specs.Closing.{kind, kind_by, end_at, class_of, Respects, IsBuiltRoot, IsClosure, PairsWithin}
 use Rattle.hm_unify.specs.States.{IsTabled}
 use Rattle.hm_unify.proofs.Ends.{Ends-end_at, Ends-within, head-kind, headed, number-var}
 
@@ -71,7 +70,7 @@ built-start nodes bound tabled x r x_in h =
       head = hd.0;
       at_root = atr;
       has_head = hd.1;
-      itself = head-kind nodes bound tabled rid w.0 hd.0 atr hd.1
+      itself = head-kind nodes bound tabled rid w.0 hd.0 atr hd.1;
     }
 
 pub IsClosure-start : (nodes : List TyNode) (bound : Bound) → IsTabled nodes bound → (pairs : Pairs) (classes : Classes) → ((e : End) → up classes e ≡ None) → PairsWithin (length nodes) pairs → IsClosure nodes bound pairs classes pairs []
@@ -89,13 +88,13 @@ IsClosure-start nodes bound tabled pairs classes none within =
           is_root = head-kind nodes bound tabled x n h p q;
           at_root = p;
           head = q;
-          parts = λ d r e. refl
+          parts = λ d r e. refl;
         };
-        built = λ x r x_in h. built-start nodes bound tabled x r x_in h
+        built = λ x r x_in h. built-start nodes bound tabled x r x_in h;
       };
       are_seen = λ e g h. absurd (not_linked e g h);
       todo_within = within;
-      seen_within = tt
+      seen_within = tt;
     }
   where
     not_linked : (e g : End) → up classes e ≡ Some g → ⊥

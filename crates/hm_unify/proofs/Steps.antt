@@ -1,5 +1,5 @@
 -- One step of the closure.
-use Rattle.std.proofs.Common.{◌≡◌, ℕ, ◌+◌, ◌<◌, ◌≤◌, ◌⊎◌, List, [], ◌∷◌, ◌++◌, length, Option, Some, None, refl, sym, ap, ◌∙◌, subst, inl, inr, ⊎_elim, arith}
+use Rattle.std.proofs.Common.{◌≡◌, ℕ, ◌<◌, ◌⊎◌, List, [], ◌∷◌, ◌++◌, length, Some, refl, sym, ap, ◌∙◌, subst, inl, inr}
 use Rattle.std.specs.List.{slice_get}
 use Rattle.ml_types.specs.declared.node.TyId.{TyId}
 use Rattle.ml_types.specs.declared.node.TyNode.{TyNode}
@@ -7,7 +7,7 @@ use Rattle.ml_types.specs.Types.{Head, head_of, parts_of, Tree, trees}
 use Rattle.hm_unify.specs.declared.classes.End.{End}
 use Rattle.hm_unify.specs.declared.classes.End.TheVariants.{Free, Built}
 use Rattle.hm_unify.specs.declared.classes.Classes.{Classes}
-use Rattle.hm_unify.specs.Solutions.{Bound, Pairs, node_at, IsSolution, Equates, IsIdOf, NoInfinite}
+use Rattle.hm_unify.specs.Solutions.{Bound, Pairs, IsSolution, Equates, IsIdOf, NoInfinite}
 use Rattle.hm_unify.specs.Classes.{up, IsForest, IsRoot, moved, joined}
 use Rattle.hm_unify.specs.Closing.{Naming, kind, end_at, class_of, Respects, HasRoot, IsBuiltRoot, IsClosing, IsSeen, IsClosure, PairsWithin, MayLink, LinksTo, Links, DoesParts, ToDo, no_parts, their_parts, Merges, Clashes}
 use Rattle.hm_unify.specs.States.{IsTabled}
@@ -25,7 +25,7 @@ IsNext-first rest u v =
     record {
       same = λ d h. (Equates-back d rest ((u, v) ∷ []) h).0;
       front = λ d h. Equates-front d rest ((u, v) ∷ []) h;
-      popped = λ d e h. Equates-append d rest ((u, v) ∷ []) h (e, tt)
+      popped = λ d e h. Equates-append d rest ((u, v) ∷ []) h (e, tt);
     }
 
 IsNext-swap : (todo rest : Pairs) (u v : TyId) → IsNext todo rest u v → IsNext todo rest v u
@@ -40,7 +40,7 @@ ToDo-swap nodes todo todo' left right (their_parts r s n m h lr rs p q a b d) =
       old = d.old;
       parts = λ t e. sym (d.parts t e);
       new = λ t e g. d.new t e (sym g);
-      within = λ k x y w. d.within k y x w
+      within = λ k x y w. d.within k y x w;
     })
 
 from_free : (from to : End) → MayLink from to → ((n : ℕ) × (from ≡ Free n)) ⊎ ((n : ℕ) × (to ≡ Free n)) → (n : ℕ) × (from ≡ Free n)
@@ -84,7 +84,7 @@ IsClosing-link nodes bound pairs name todo rest todo' u v from to k next nu nv a
           is_root = moved-here from to (name x) is_from ∙ ts;
           at_root = q;
           head = b ∙ eh;
-          parts = λ d w g. o.parts d (Respects-before name from to d w) (back d w g) ∙ ap (λ k. trees d (parts_of k)) en ∙ done.parts d g
+          parts = λ d w g. o.parts d (Respects-before name from to d w) (back d w g) ∙ ap (λ k. trees d (parts_of k)) en ∙ done.parts d g;
         }
 
 pub IsClosing-same : (nodes : List TyNode) (bound : Bound) (pairs : Pairs) (name : Naming) (todo rest : Pairs) (u v : TyId) → IsClosing nodes bound pairs name todo → IsNext todo rest u v → name u ≡ name v → IsClosing nodes bound pairs name rest
@@ -94,7 +94,7 @@ IsClosing-same nodes bound pairs name todo rest u v k next e =
       forced = λ d s q. next.front d (k.forced d s q);
       covers = λ d r g. k.covers d r (next.popped d (r u v e) g);
       roots = λ x n h p q. roots_by x n h (k.roots x n h p q);
-      built = k.built
+      built = k.built;
     }
   where
     roots_by : (x : TyId) (n : TyNode) (h : Head) → HasRoot nodes name todo x n h → HasRoot nodes name rest x n h
@@ -105,7 +105,7 @@ IsClosing-same nodes bound pairs name todo rest u v k next e =
           is_root = o.is_root;
           at_root = o.at_root;
           head = o.head;
-          parts = λ d r g. o.parts d r (next.popped d (r u v e) g)
+          parts = λ d r g. o.parts d r (next.popped d (r u v e) g);
         }
 
 IsSeen-link : (nodes : List TyNode) (bound : Bound) (old new : Classes) (f : End → End) (seen seen' : Pairs) (u : TyId) (from to : End) → IsForest old f → IsRoot old from → class_of nodes bound f u ≡ from → LinksTo old new from to → IsIdOf seen' u → ((x : TyId) → IsIdOf seen x → IsIdOf seen' x) → IsSeen old f (class_of nodes bound f) seen → IsSeen new (joined f from to) (class_of nodes bound (joined f from to)) seen'
@@ -123,7 +123,7 @@ IsClosure-link nodes bound pairs old new todo rest todo' seen seen' u v from to 
       closing = IsClosing-link nodes bound pairs (class_of nodes bound k.root_of) todo rest todo' u v from to k.closing next nu nv apart u_in v_in link.may to_do;
       are_seen = IsSeen-link nodes bound old new k.root_of seen seen' u from to k.forest root nu link has more k.are_seen;
       todo_within = todo_in;
-      seen_within = seen_in
+      seen_within = seen_in;
     }
 
 -- what is to do lies in the table again
@@ -161,7 +161,7 @@ IsClosure-same nodes bound pairs classes rest seen u v k e =
       closing = IsClosing-same nodes bound pairs (class_of nodes bound k.root_of) (rest ++ (u, v) ∷ []) rest u v k.closing (IsNext-first rest u v) e;
       are_seen = λ a g h. (let o = k.are_seen a g h in (o.0, IsIdOf-front seen ((u, v) ∷ []) o.0 o.1, o.2));
       todo_within = PairsWithin-front (length nodes) rest ((u, v) ∷ []) k.todo_within;
-      seen_within = PairsWithin-append (length nodes) seen ((u, v) ∷ []) k.seen_within (PairsWithin-back (length nodes) rest ((u, v) ∷ []) k.todo_within)
+      seen_within = PairsWithin-append (length nodes) seen ((u, v) ∷ []) k.seen_within (PairsWithin-back (length nodes) rest ((u, v) ∷ []) k.todo_within);
     }
 
 -- where the heads of two roots differ, no types serve

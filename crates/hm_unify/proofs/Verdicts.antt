@@ -1,18 +1,16 @@
 -- What the sizes of closed classes say.
-use Rattle.std.proofs.Common.{◌≡◌, ℕ, zero, suc, ◌+◌, ◌<◌, ◌≤◌, ◌⊎◌, min, max, List, [], ◌∷◌, ◌++◌, length, take, Option, Some, None, refl, sym, ap, ◌∙◌, subst, inl, inr, ⊎_elim, arith}
-use Rattle.std.specs.List.{slice_get}
+use Rattle.std.proofs.Common.{◌≡◌, ℕ, zero, suc, ◌<◌, ◌≤◌, ◌⊎◌, max, List, [], ◌∷◌, ◌++◌, length, Option, Some, None, refl, sym, ap, ◌∙◌, subst, inl, inr, ⊎_elim, arith}
 use Rattle.ml_types.specs.declared.node.TyId.{TyId}
 use Rattle.ml_types.specs.declared.node.TyNode.{TyNode}
-use Rattle.ml_types.specs.Types.{Tree, tree_size}
+use Rattle.ml_types.specs.Types.{tree_size}
 use Rattle.hm_unify.specs.declared.classes.Classes.{Classes}
-use Rattle.hm_unify.specs.declared.classes.End.TheVariants.{Built}
-use Rattle.hm_unify.specs.Solutions.{Bound, Pairs, Solves, HasFinite, HasInfinite, Equates, IsIdOf, Fits, IsTooLarge, NoFinite, NoInfinite, IsFirstFault}
+use Rattle.hm_unify.specs.Solutions.{Bound, Pairs, HasFinite, HasInfinite, IsIdOf, Fits, IsTooLarge, NoFinite, NoInfinite}
 use Rattle.hm_unify.specs.States.{IsTabled}
-use Rattle.hm_unify.specs.Closing.{Naming, class_of, IsBuiltRoot, IsClosure, PairsWithin}
-use Rattle.hm_unify.specs.Shapes.{HasSize, AreMeasured, Shape, IsMarked, FindsAll, mark_at}
+use Rattle.hm_unify.specs.Closing.{Naming, class_of, IsClosure, PairsWithin}
+use Rattle.hm_unify.specs.Shapes.{HasSize, AreMeasured, IsMarked, FindsAll, mark_at}
 use Rattle.hm_unify.specs.declared.measure.Marks.{Marks}
 use Rattle.hm_unify.specs.declared.measure.Mark.TheVariants.{Open, Done}
-use Rattle.hm_unify.proofs.Equations.{IsIdOf-front, IsIdOf-back, Equates-take, Equates-less}
+use Rattle.hm_unify.proofs.Equations.{IsIdOf-front, IsIdOf-back}
 use Rattle.hm_unify.proofs.Searches.{Respected-closure, IsSolution-finite}
 use Rattle.hm_unify.proofs.Finite.{Least, Least-closure, Shape-unique, Shape-least, HasInfinite-closure}
 
@@ -75,11 +73,15 @@ Least-of nodes bound tabled old pairs classes seen k s all =
 
 pub Fits-closure : (nodes : List TyNode) (bound : Bound) → IsTabled nodes bound → HasFinite nodes bound [] → (pairs : Pairs) (classes : Classes) (seen : Pairs) (k : IsClosure nodes bound pairs classes [] seen) (s u : ℕ) → AreMeasured nodes (class_of nodes bound k.root_of) seen s → AreMeasured nodes (class_of nodes bound k.root_of) pairs u → u ≤ 2000 → Fits nodes bound pairs
 Fits-closure nodes bound tabled old pairs classes seen k s u all these small =
-    let least = Least-of nodes bound tabled old pairs classes seen k s all in
-    (least.tree, least.solves, least.equates, λ x h.
-      (let o = these.each x h in
-      let same : least.tree x ≡ o.1.0 = Shape-unique nodes (class_of nodes bound k.root_of) (class_of nodes bound k.root_of x) (least.tree x) o.1.0 (least.shape x) o.1.1 in
-      omega (arith, ap tree_size same, o.1.2, o.2, small)))
+    let least = Least-of nodes bound tabled old pairs classes seen k s all in (
+      least.tree,
+      least.solves,
+      least.equates,
+      λ x h.
+          (let o = these.each x h in
+          let same : least.tree x ≡ o.1.0 = Shape-unique nodes (class_of nodes bound k.root_of) (class_of nodes bound k.root_of x) (least.tree x) o.1.0 (least.shape x) o.1.1 in
+          omega (arith, ap tree_size same, o.1.2, o.2, small)),
+    )
 
 pub IsTooLarge-closure : (nodes : List TyNode) (bound : Bound) → IsTabled nodes bound → HasFinite nodes bound [] → (pairs : Pairs) (classes : Classes) (seen : Pairs) (k : IsClosure nodes bound pairs classes [] seen) (s u : ℕ) → AreMeasured nodes (class_of nodes bound k.root_of) seen s → AreMeasured nodes (class_of nodes bound k.root_of) pairs u → PairsWithin (length nodes) pairs → 2000 < u → IsTooLarge nodes bound pairs
 IsTooLarge-closure nodes bound tabled old pairs classes seen k s u all these within large =
@@ -89,7 +91,7 @@ IsTooLarge-closure nodes bound tabled old pairs classes seen k s u all these wit
       some = (least.tree, least.solves, least.equates);
       id = o.0;
       of_pairs = o.1;
-      large = λ t sol eqs. (let least_size = Shape-least nodes (class_of nodes bound k.root_of) t (Respected-closure nodes bound pairs classes seen k t sol eqs) (class_of nodes bound k.root_of o.0) o.2.0 o.2.1 o.0 refl in omega (arith, least_size, o.2.2, large))
+      large = λ t sol eqs. (let least_size = Shape-least nodes (class_of nodes bound k.root_of) t (Respected-closure nodes bound pairs classes seen k t sol eqs) (class_of nodes bound k.root_of o.0) o.2.0 o.2.1 o.0 refl in omega (arith, least_size, o.2.2, large));
     }
 
 pub NoFinite-infinite : (nodes : List TyNode) (bound : Bound) (pairs : Pairs) → NoInfinite nodes bound pairs → NoFinite nodes bound pairs
@@ -99,7 +101,7 @@ pub IsMarked-new : (nodes : List TyNode) (name : Naming) (marks : Marks) → ((r
 IsMarked-new nodes name marks none =
     record {
       done = λ r s h. absurd (let g : None ≡ Some (Done s) = sym (none r) ∙ h in cc);
-      opened = λ r h. absurd (let g : None ≡ Some Open = sym (none r) ∙ h in cc)
+      opened = λ r h. absurd (let g : None ≡ Some Open = sym (none r) ∙ h in cc);
     }
 
 -- what is known of the largest size in a list

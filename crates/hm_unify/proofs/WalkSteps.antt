@@ -1,18 +1,17 @@
 -- The steps of a walk.
-use Rattle.std.proofs.Common.{◌≡◌, ℕ, zero, suc, ◌+◌, ◌-◌, ◌<◌, ◌≤◌, ◌⊎◌, List, [], ◌∷◌, ◌++◌, length, take, Option, Some, None, refl, sym, ap, ◌∙◌, subst, inl, inr, ⊎_elim, arith, get_or, set}
+use Rattle.std.proofs.Common.{◌≡◌, ℕ, zero, suc, ◌+◌, ◌-◌, ◌<◌, ◌≤◌, List, [], ◌∷◌, length, Option, Some, None, sym, ap, ◌∙◌, subst, arith, set}
 use Rattle.std.specs.List.{slice_get}
-use Rattle.std.proofs.lemmas.Option.{slice_get_within}
 use Rattle.ml_types.specs.declared.node.TyId.{TyId}
 use Rattle.ml_types.specs.declared.node.TyNode.{TyNode}
 use Rattle.ml_types.specs.declared.node.TyNode.TheVariants.{Var, Con, Tuple, Arrow}
-use Rattle.ml_types.specs.Types.{Head, head_of, parts_of, Tree, Leaf, Node, Trees, Nil, Cons, trees, tree_size, trees_size}
-use Rattle.hm_unify.specs.Solutions.{Bound, Pairs, node_at, variable_of, Ends, Solves, Equates}
+use Rattle.ml_types.specs.Types.{Head, head_of, parts_of, Tree, Leaf, Node, trees, tree_size, trees_size}
+use Rattle.hm_unify.specs.Solutions.{Bound, node_at, variable_of, Ends, Solves}
 use Rattle.hm_unify.specs.States.{IsTabled, rank}
-use Rattle.hm_unify.specs.Walks.{Walk, WalkAll, same_node, same_variable, left, right, parts}
+use Rattle.hm_unify.specs.Walks.{Walk, WalkAll, left, right, parts}
 use Rattle.hm_unify.proofs.Ends.{headed}
 use Rattle.hm_unify.proofs.Starts.{Ends-same}
-use Rattle.hm_unify.proofs.Equations.{take-next, trees-next, trees-at, PairsWithin-at}
-use Rattle.hm_unify.proofs.Walks.{IsTabled-bind, WalkAll-push, Walk-back}
+use Rattle.hm_unify.proofs.Equations.{trees-at}
+use Rattle.hm_unify.proofs.Walks.{IsTabled-bind}
 
 pub variable-is : (n : TyNode) (k : ℕ) → variable_of n ≡ Some k → n ≡ Var k
 variable-is (Var m) k h = let e : m ≡ k = cc in ap Var e
@@ -36,7 +35,7 @@ step-left nodes m m' a b x y n k ex ey at rises y_in e =
     let lt = k.variables_in x n at in
     record {
       walk = subst (Walk nodes m a b) (sym e) (left x y n ex ey at (λ h. (let g = rises n h in absurd (omega (arith, g)))) lt);
-      tabled = subst (IsTabled nodes) (sym e) (IsTabled-bind nodes m y n k lt y_in rises)
+      tabled = subst (IsTabled nodes) (sym e) (IsTabled-bind nodes m y n k lt y_in rises);
     }
 
 pub step-right : (nodes : List TyNode) (m m' : Bound) (a b x y : TyId) (n : ℕ) → IsTabled nodes m → Ends nodes m a x → Ends nodes m b y → node_at nodes y ≡ Some (Var n) → ((k : ℕ) → node_at nodes x ≡ Some (Var k) → rank n < rank k) → x.0 < length nodes → m' ≡ set m n (Some x) → Stepped nodes m a b m'
@@ -44,7 +43,7 @@ step-right nodes m m' a b x y n k ex ey at rises x_in e =
     let lt = k.variables_in y n at in
     record {
       walk = subst (Walk nodes m a b) (sym e) (right x y n ex ey at (λ h. (let g = rises n h in absurd (omega (arith, g)))) lt);
-      tabled = subst (IsTabled nodes) (sym e) (IsTabled-bind nodes m x n k lt x_in rises)
+      tabled = subst (IsTabled nodes) (sym e) (IsTabled-bind nodes m x n k lt x_in rises);
     }
 
 -- a node that is no variable meets no demand on variables

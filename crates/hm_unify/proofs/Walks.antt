@@ -1,14 +1,13 @@
 -- A walk keeps exactly the solutions that make the two equal.
-use Rattle.std.proofs.Common.{◌≡◌, ℕ, zero, suc, ◌+◌, ◌<◌, ◌≤◌, ◌≢◌, ◌⊎◌, List, [], ◌∷◌, ◌++◌, length, take, Option, Some, None, refl, sym, ap, ◌∙◌, subst, inl, inr, ⊎_elim, arith, get_or, set, get_or-set_other, get_or-set_same}
-use Rattle.std.specs.List.{slice_get}
+use Rattle.std.proofs.Common.{◌≡◌, ℕ, ◌<◌, ◌⊎◌, List, [], ◌∷◌, ◌++◌, length, Option, Some, None, refl, sym, ap, ◌∙◌, subst, inl, inr, ⊎_elim, get_or, set, get_or-set_other, get_or-set_same}
 use Rattle.std.specs.Option.{option_and_then}
 use Rattle.std.proofs.lemmas.Bool.{cases_eq}
 use Rattle.std.proofs.Math.ListN.{length-set}
 use Rattle.ml_types.specs.declared.node.TyId.{TyId}
 use Rattle.ml_types.specs.declared.node.TyNode.{TyNode}
 use Rattle.ml_types.specs.declared.node.TyNode.TheVariants.{Var}
-use Rattle.ml_types.specs.Types.{Head, head_of, parts_of, Tree, Leaf, Node, Trees, Nil, Cons, trees, tree_size, trees_size}
-use Rattle.hm_unify.specs.Solutions.{Bound, Pairs, node_at, number_at, link, Ends, Solves, Equates}
+use Rattle.ml_types.specs.Types.{parts_of, Tree, Node, Cons, trees}
+use Rattle.hm_unify.specs.Solutions.{Bound, Pairs, node_at, number_at, link, Solves, Equates}
 use Rattle.hm_unify.specs.States.{IsTabled, rank}
 use Rattle.hm_unify.specs.Walks.{Walk, WalkAll, WalkPairs, same_node, same_variable, left, right, parts, done, step, all_walked, next_pair}
 use Rattle.hm_unify.proofs.Ends.{Ends-end, link-number, number-var, var-number}
@@ -39,12 +38,14 @@ link_from nodes m u k o p h = ap (option_and_then (λ i. get_or m i None)) p ∙
 
 -- a free variable x, bound to w
 Solves-before : (nodes : List TyNode) (m : Bound) (x w : TyId) (n : ℕ) (t : TyId → Tree) → node_at nodes x ≡ Some (Var n) → link nodes m x ≡ None → n < length m → Solves nodes (set m n (Some w)) t → Solves nodes m t × (t x ≡ t w)
-Solves-before nodes m x w n t p free lt s =
-    (record {
-      nodes_are = s.nodes_are;
-      one_variable = s.one_variable;
-      bound_is = λ u y h. (let l = link-number nodes m u y h in s.bound_is u y (link_from nodes (set m n (Some w)) u l.0 (Some y) l.1 (set_keeps m n l.0 (Some w) y (unbound nodes m x n p free) l.2)))
-    }, s.bound_is x w (link_from nodes (set m n (Some w)) x n (Some w) (var-number nodes x n p) (get_or-set_same m n (Some w) None lt)))
+Solves-before nodes m x w n t p free lt s = (
+  record {
+    nodes_are = s.nodes_are;
+    one_variable = s.one_variable;
+    bound_is = λ u y h. (let l = link-number nodes m u y h in s.bound_is u y (link_from nodes (set m n (Some w)) u l.0 (Some y) l.1 (set_keeps m n l.0 (Some w) y (unbound nodes m x n p free) l.2)));
+  },
+  s.bound_is x w (link_from nodes (set m n (Some w)) x n (Some w) (var-number nodes x n p) (get_or-set_same m n (Some w) None lt)),
+)
 
 Solves-after : (nodes : List TyNode) (m : Bound) (x w : TyId) (n : ℕ) (t : TyId → Tree) → node_at nodes x ≡ Some (Var n) → n < length m → Solves nodes m t → t x ≡ t w → Solves nodes (set m n (Some w)) t
 Solves-after nodes m x w n t p lt s e =
@@ -126,7 +127,7 @@ IsTabled-bind nodes m w n k lt w_in rises =
       parts_in = k.parts_in;
       variables_in = λ x i p. (let h = k.variables_in x i p in subst (λ v. i < v) (sym (length-set m n (Some w))) h);
       targets_in = λ i y h. ⊎_elim (λ (c : (i ≡ n) × (y ≡ w)). subst (λ v. v.0 < length nodes) (sym c.1) w_in) (λ (c : get_or m i None ≡ Some y). k.targets_in i y c) (set_cases m n i w y lt h);
-      rising = λ i j y h p. ⊎_elim (λ (c : (i ≡ n) × (y ≡ w)). subst (λ v. rank v < rank j) (sym c.0) (rises j (subst (λ v. node_at nodes v ≡ Some (Var j)) c.1 p))) (λ (c : get_or m i None ≡ Some y). k.rising i j y c p) (set_cases m n i w y lt h)
+      rising = λ i j y h p. ⊎_elim (λ (c : (i ≡ n) × (y ≡ w)). subst (λ v. rank v < rank j) (sym c.0) (rises j (subst (λ v. node_at nodes v ≡ Some (Var j)) c.1 p))) (λ (c : get_or m i None ≡ Some y). k.rising i j y c p) (set_cases m n i w y lt h);
     }
 
 mutual

@@ -1,5 +1,5 @@
 -- Classes of ends of bindings, as a forest of links.
-use Rattle.std.specs.Prelude.{◌≡◌, ℕ, ◌+◌, Option, Some, None, Bool, cond, nat_eq, eqb}
+use Rattle.std.specs.Prelude.{◌≡◌, ℕ, ◌+◌, Option, Some, None, cond, nat_eq, eqb}
 use Rattle.std.specs.HashMap.{get}
 use Rattle.hm_unify.specs.declared.classes.End.{End}
 use Rattle.hm_unify.specs.declared.classes.End.TheVariants.{Free, Built}

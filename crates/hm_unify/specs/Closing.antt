@@ -2,7 +2,7 @@
 use Rattle.std.specs.Prelude.{◌≡◌, ℕ, zero, suc, ◌+◌, ◌<◌, ◌^◌, List, [], ◌∷◌, length, Option, Some, None, slice_get, ◌⊎◌}
 use Rattle.ml_types.specs.declared.node.TyId.{TyId}
 use Rattle.ml_types.specs.declared.node.TyNode.{TyNode}
-use Rattle.ml_types.specs.Types.{Head, head_of, parts_of, Tree, Leaf, Node, trees}
+use Rattle.ml_types.specs.Types.{Head, head_of, parts_of, Tree, trees}
 use Rattle.hm_unify.specs.declared.classes.End.{End}
 use Rattle.hm_unify.specs.declared.classes.End.TheVariants.{Free, Built}
 use Rattle.hm_unify.specs.declared.classes.Classes.{Classes}

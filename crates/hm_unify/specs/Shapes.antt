@@ -1,9 +1,9 @@
 -- The least trees of closed classes.
-use Rattle.std.specs.Prelude.{◌≡◌, ℕ, ◌+◌, ◌<◌, ◌≤◌, min, List, [], ◌∷◌, ◌++◌, length, take, Option, Some, None, slice_get, nat_eq, ◌⊎◌}
+use Rattle.std.specs.Prelude.{◌≡◌, ℕ, ◌<◌, ◌≤◌, min, List, [], ◌∷◌, take, Option, Some, None, slice_get, nat_eq, ◌⊎◌}
 use Rattle.std.specs.HashMap.{get}
 use Rattle.ml_types.specs.declared.node.TyId.{TyId}
 use Rattle.ml_types.specs.declared.node.TyNode.{TyNode}
-use Rattle.ml_types.specs.Types.{Head, head_of, parts_of, Tree, Leaf, Node, Trees, Nil, Cons, trees, tree_size, trees_size}
+use Rattle.ml_types.specs.Types.{Head, head_of, parts_of, Tree, Leaf, Node, Trees, Nil, Cons, tree_size, trees_size}
 use Rattle.hm_unify.specs.declared.classes.End.{End}
 use Rattle.hm_unify.specs.declared.classes.End.TheVariants.{Free, Built}
 use Rattle.hm_unify.specs.declared.measure.Mark.{Mark}
@@ -21,6 +21,7 @@ mutual
     free_shape : (n : ℕ) → Shape nodes name (Free n) (Leaf n)
     past_shape : (r : ℕ) → slice_get nodes r ≡ None → Shape nodes name (Built r) (Leaf 0)
     built_shape : (r : ℕ) (n : TyNode) (h : Head) (ts : Trees) → slice_get nodes r ≡ Some n → head_of n ≡ Some h → name (record { 0 = r }) ≡ Built r → Shapes nodes name (parts_of n) ts → Shape nodes name (Built r) (Node h ts)
+
   pub data Shapes (nodes : List TyNode) (name : Naming) : List TyId → Trees → Type 0 where
     no_shape : Shapes nodes name [] Nil
     more_shapes : (x : TyId) (xs : List TyId) (t : Tree) (ts : Trees) → Shape nodes name (name x) t → Shapes nodes name xs ts → Shapes nodes name (x ∷ xs) (Cons t ts)

@@ -1,5 +1,5 @@
 -- Bindings as a table of nodes and a finite map from bound variables to ids, and what solves them.
-use Rattle.std.specs.Prelude.{◌≡◌, ℕ, ◌+◌, ◌-◌, ◌*◌, ◌%◌, ◌^◌, ◌<◌, ◌≤◌, ◌⊎◌, List, [], ◌∷◌, length, take, Option, Some, None, slice_get, slice_index_or}
+use Rattle.std.specs.Prelude.{◌≡◌, ℕ, ◌+◌, ◌<◌, ◌≤◌, ◌⊎◌, List, [], ◌∷◌, length, take, Option, Some, None, slice_get, slice_index_or}
 use Rattle.std.specs.Option.{option_and_then}
 use Rattle.ml_types.specs.declared.node.TyId.{TyId}
 use Rattle.ml_types.specs.declared.node.TyNode.{TyNode}
@@ -101,6 +101,7 @@ mutual
   pub data Stands (nodes : List TyNode) (bound : Bound) : TyId → Tree → Type 0 where
     variable : (x e : TyId) (n : ℕ) → Ends nodes bound x e → node_at nodes e ≡ Some (Var n) → Stands nodes bound x (Leaf n)
     built : (x e : TyId) (n : TyNode) (h : Head) (ts : Trees) → Ends nodes bound x e → node_at nodes e ≡ Some n → head_of n ≡ Some h → StandAll nodes bound (parts_of n) ts → Stands nodes bound x (Node h ts)
+
   pub data StandAll (nodes : List TyNode) (bound : Bound) : List TyId → Trees → Type 0 where
     none : StandAll nodes bound [] Rattle.ml_types.specs.Types.Nil
     more : (x : TyId) (xs : List TyId) (t : Tree) (ts : Trees) → Stands nodes bound x t → StandAll nodes bound xs ts → StandAll nodes bound (x ∷ xs) (Rattle.ml_types.specs.Types.Cons t ts)

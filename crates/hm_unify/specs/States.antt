@@ -1,12 +1,12 @@
 -- Bindings as callers see them, and what each call leaves.
-use Rattle.std.specs.Prelude.{◌≡◌, ℕ, ◌+◌, ◌-◌, ◌*◌, ◌%◌, ◌^◌, ◌<◌, ◌≤◌, List, [], ◌∷◌, ◌++◌, length, Option, Some, None, slice_get, slice_index_or}
+use Rattle.std.specs.Prelude.{◌≡◌, ℕ, ◌+◌, ◌*◌, ◌%◌, ◌<◌, List, [], ◌∷◌, ◌++◌, length, Some, None, slice_get, slice_index_or}
 use Rattle.ml_types.specs.declared.node.TyId.{TyId}
 use Rattle.ml_types.specs.declared.node.TyNode.{TyNode}
-use Rattle.ml_types.specs.declared.node.TyNode.TheVariants.{Var, Con, Tuple, Arrow}
-use Rattle.ml_types.specs.Types.{Head, head_of, parts_of, Tree}
+use Rattle.ml_types.specs.declared.node.TyNode.TheVariants.{Var}
+use Rattle.ml_types.specs.Types.{parts_of, Tree}
 use Rattle.hm_unify.specs.declared.error.UnifyErr.{UnifyErr}
 use Rattle.hm_unify.specs.declared.error.UnifyErr.TheVariants.{Clash, Cycle, TooLarge, NoMemory}
-use Rattle.hm_unify.specs.Solutions.{Bound, Pairs, node_at, link, Ends, HasFinite, HasInfinite, NoInfinite, Solves, Equates, Fits, IsFirstFault, IsTooLarge}
+use Rattle.hm_unify.specs.Solutions.{Bound, Pairs, node_at, Ends, HasFinite, HasInfinite, NoInfinite, Solves, Equates, Fits, IsFirstFault, IsTooLarge}
 use Rattle.hm_unify.specs.Walks.{WalkPairs}
 
 pub record State : Type 0 where

@@ -1,5 +1,5 @@
 -- The order in which equations bind variables.
-use Rattle.std.specs.Prelude.{◌≡◌, ℕ, ◌<◌, List, [], ◌∷◌, length, Option, Some, None, slice_get, slice_set, slice_index_or}
+use Rattle.std.specs.Prelude.{◌≡◌, ℕ, ◌<◌, List, [], ◌∷◌, length, Some, slice_set}
 use Rattle.ml_types.specs.declared.node.TyId.{TyId}
 use Rattle.ml_types.specs.declared.node.TyNode.{TyNode}
 use Rattle.ml_types.specs.declared.node.TyNode.TheVariants.{Var}
@@ -16,6 +16,7 @@ mutual
     left : {m : Bound} {a b : TyId} (x y : TyId) (n : ℕ) → Ends nodes m a x → Ends nodes m b y → node_at nodes x ≡ Some (Var n) → (node_at nodes y ≡ Some (Var n) → ⊥) → n < length m → Walk nodes m a b (slice_set m n (Some y))
     right : {m : Bound} {a b : TyId} (x y : TyId) (n : ℕ) → Ends nodes m a x → Ends nodes m b y → node_at nodes y ≡ Some (Var n) → (node_at nodes x ≡ Some (Var n) → ⊥) → n < length m → Walk nodes m a b (slice_set m n (Some x))
     parts : {m m' : Bound} {a b : TyId} (x y : TyId) (n k : TyNode) (h : Head) → Ends nodes m a x → Ends nodes m b y → node_at nodes x ≡ Some n → node_at nodes y ≡ Some k → head_of n ≡ Some h → head_of k ≡ Some h → WalkAll nodes m (parts_of n) (parts_of k) m' → Walk nodes m a b m'
+
   pub data WalkAll (nodes : List TyNode) : Bound → List TyId → List TyId → Bound → Type 0 where
     done : {m : Bound} → WalkAll nodes m [] [] m
     step : {m m1 m2 : Bound} {a b : TyId} {ps qs : List TyId} → Walk nodes m a b m1 → WalkAll nodes m1 ps qs m2 → WalkAll nodes m (a ∷ ps) (b ∷ qs) m2

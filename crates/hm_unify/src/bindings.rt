@@ -4,18 +4,16 @@ ghost use Rattle.hm_unify.specs.Solutions.{Stands};
 ghost use Rattle.hm_unify.specs.States.{State, IsTable, IsNew, IsUnchanged, Adds, AddsFresh, PartsWithin, IsHead, IsTableOf, Equated, Refused, IsTabled};
 ghost use Rattle.hm_unify.specs.Closing.{PairsWithin};
 
-use std::alloc::Global;
-use std::marker::Model;
-
-use ml_types::{TyId, TyNode, TyTable};
-use oxml_base::{Items, NoMemory};
-
 use crate::bound::end_of;
 use crate::error::UnifyErr;
 use crate::node::node;
 use crate::refusal::refusal;
 use crate::tables::{cover, covering, heads, size_within};
 use crate::walk::walk_pairs;
+use ml_types::{TyId, TyNode, TyTable};
+use oxml_base::{Items, NoMemory};
+use std::alloc::Global;
+use std::marker::Model;
 
 /// Types with variables, and what these are bound to.
 #[derive(Drop)]
@@ -44,7 +42,11 @@ impl Bindings {
     {
         let TyTable { nodes } = t;
         let bound = covering(alloc, nodes.as_slice())?;
-        Ok(Bindings { alloc, nodes, bound })
+        Ok(Bindings {
+            alloc,
+            nodes,
+            bound,
+        })
     }
 
     /// A variable that no node has yet, and that is not bound.
@@ -52,8 +54,12 @@ impl Bindings {
         ensures ok { IfOk result (λ id. AddsFresh self.old self.new id) }
         ensures err { OnErr result (IsUnchanged self.old self.new) }
     {
-        let Ok(number) = u32::try_from(self.bound.len()) else { return Err(NoMemory) };
-        let Ok(id) = u32::try_from(self.nodes.len()) else { return Err(NoMemory) };
+        let Ok(number) = u32::try_from(self.bound.len()) else {
+            return Err(NoMemory)
+        };
+        let Ok(id) = u32::try_from(self.nodes.len()) else {
+            return Err(NoMemory)
+        };
         self.bound.push(None)?;
         self.nodes.push(TyNode::Var(number))?;
         Ok(TyId(id))
@@ -65,7 +71,9 @@ impl Bindings {
         ensures ok { IfOk result (λ id. Adds self.old self.new n id) }
         ensures err { OnErr result (IsUnchanged self.old self.new) }
     {
-        let Ok(id) = u32::try_from(self.nodes.len()) else { return Err(NoMemory) };
+        let Ok(id) = u32::try_from(self.nodes.len()) else {
+            return Err(NoMemory)
+        };
         cover(&mut self.bound, &n)?;
         self.nodes.push(n)?;
         Ok(TyId(id))
@@ -79,7 +87,12 @@ impl Bindings {
         ensures err { IfErr result (λ e. Refused self.old pairs.now e) }
         ensures same { OnErr result (self.new ≡ self.old) }
     {
-        match refusal(self.alloc, self.nodes.as_slice(), self.bound.as_slice(), pairs) {
+        match refusal(
+            self.alloc,
+            self.nodes.as_slice(),
+            self.bound.as_slice(),
+            pairs,
+        ) {
             Some(error) => Err(error),
             None => {
                 walk_pairs(self.nodes.as_slice(), &mut self.bound, pairs);
@@ -111,7 +124,11 @@ impl Bindings {
     pub fn table(self) -> Result<TyTable, NoMemory>
         ensures { IfOk result (λ t. IsTableOf self t.nodes) }
     {
-        let Bindings { alloc, nodes, bound } = self;
+        let Bindings {
+            alloc,
+            nodes,
+            bound,
+        } = self;
         let nodes = heads(alloc, nodes.as_slice(), bound.as_slice())?;
         Ok(TyTable { nodes })
     }

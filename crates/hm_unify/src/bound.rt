@@ -3,9 +3,8 @@ ghost use Rattle.std.specs.Prelude.{◌≡◌, ℕ, ◌<◌, length, slice_index
 ghost use Rattle.hm_unify.specs.Solutions.{link, Ends};
 ghost use Rattle.hm_unify.specs.States.{priority, rank, IsTabled};
 
-use ml_types::{TyId, TyNode};
-
 use crate::node::{node, variable};
+use ml_types::{TyId, TyNode};
 
 /// A number for each variable, mixed so that neighbours are far apart (multiplicative hashing).
 fn priority(number: u32) -> u32

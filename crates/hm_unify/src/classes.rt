@@ -3,10 +3,9 @@ ghost use Rattle.std.specs.Prelude.{◌≡◌, ◌⊎◌, ℕ, Option, Some, Non
 ghost use Rattle.hm_unify.specs.declared.classes.End.{End};
 ghost use Rattle.hm_unify.specs.Classes.{up, IsForest, IsRoot, joined};
 
+use oxml_base::NoMemory;
 use std::alloc::Global;
 use std::collections::HashMap;
-
-use oxml_base::NoMemory;
 
 /// What stands at the end of bindings: a free variable by its number, or another node by its id.
 #[derive(Clone, Copy, Debug, PartialEq, Eq)]

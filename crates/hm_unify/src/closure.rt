@@ -9,14 +9,12 @@ ghost use Rattle.hm_unify.specs.Classes.{IsRoot};
 ghost use Rattle.hm_unify.specs.declared.classes.End.{End};
 ghost use Rattle.hm_unify.specs.Closing.{kind, end_at, IsClosure, PairsWithin, SomeClosure, IsBuiltIn, Merges, Links, Clashes, ToDo, MayLink};
 
-use std::alloc::Global;
-
-use ml_types::{TyId, TyNode};
-use oxml_base::NoMemory;
-
 use crate::bound::{end_of, is_below};
 use crate::classes::{Classes, End};
 use crate::node::{node, part, same_head, variable};
+use ml_types::{TyId, TyNode};
+use oxml_base::NoMemory;
+use std::alloc::Global;
 
 /// What stands for an id under the bindings.
 pub fn end(nodes: &[TyNode], bound: &[Option<TyId>], id: TyId) -> End
@@ -40,8 +38,12 @@ fn push_parts(todo: &mut Vec<(TyId, TyId)>, left: &TyNode, right: &TyNode) -> Re
     ensures within { OnOk result ((n : ℕ) → ((i : ℕ) (p : TyId) → slice_get (parts_of left.now) i ≡ Some p → p.0 < n) → ((i : ℕ) (p : TyId) → slice_get (parts_of right.now) i ≡ Some p → p.0 < n) → PairsWithin n todo.old.items → PairsWithin n todo.new.items) }
 {
     for at in 0..u64::MAX {
-        let Some(first) = part(left, at as usize) else { return Ok(()) };
-        let Some(second) = part(right, at as usize) else { return Ok(()) };
+        let Some(first) = part(left, at as usize) else {
+            return Ok(())
+        };
+        let Some(second) = part(right, at as usize) else {
+            return Ok(())
+        };
         todo.push((first, second))?;
     }
     // No node has so many parts.
@@ -93,8 +95,12 @@ fn push_common(
     ensures yes { IfOk result (λ ok. OnTrue ok (ToDo nodes.now todo.old.items todo.new.items left right)) }
     ensures no { IfOk result (λ ok. OnFalse ok (Clashes nodes.now left right)) }
 {
-    let End::Built(first) = left else { return Ok(true) };
-    let End::Built(second) = right else { return Ok(true) };
+    let End::Built(first) = left else {
+        return Ok(true)
+    };
+    let End::Built(second) = right else {
+        return Ok(true)
+    };
     let one = node(nodes, TyId(first));
     let other = node(nodes, TyId(second));
     if !same_head(one, other) {

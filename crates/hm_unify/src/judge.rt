@@ -8,14 +8,12 @@ ghost use Rattle.hm_unify.specs.Closing.{class_of, IsClosure, SomeClosure, Pairs
 ghost use Rattle.hm_unify.specs.Shapes.{IsMarked, FindsAll};
 ghost use Rattle.hm_unify.specs.Verdicts.{Judged};
 
-use std::alloc::Global;
-
-use ml_types::{TyId, TyNode};
-use oxml_base::NoMemory;
-
 use crate::classes::Classes;
 use crate::closure::{Closed, close};
 use crate::measure::{Marks, measure};
+use ml_types::{TyId, TyNode};
+use oxml_base::NoMemory;
+use std::alloc::Global;
 
 /// What solutions pairs have.
 #[derive(Clone, Copy, Debug, PartialEq, Eq)]
@@ -95,9 +93,13 @@ pub fn judge(
     };
     let mut marks = Marks::new(alloc);
     let all = largest(alloc, nodes, bound, &classes, &mut marks, seen.as_slice())?;
-    let Some(_all) = all else { return Ok(Verdict::Cycle) };
+    let Some(_all) = all else {
+        return Ok(Verdict::Cycle)
+    };
     let most = largest(alloc, nodes, bound, &classes, &mut marks, pairs)?;
-    let Some(size) = most else { return Ok(Verdict::Cycle) };
+    let Some(size) = most else {
+        return Ok(Verdict::Cycle)
+    };
     if size > 2000 {
         return Ok(Verdict::TooLarge);
     }

@@ -12,10 +12,9 @@ mod measure;
 mod node;
 mod refusal;
 mod tables;
-mod walk;
-
 #[cfg(test)]
 mod tests;
+mod walk;
 
 pub use bindings::Bindings;
 pub use error::UnifyErr;

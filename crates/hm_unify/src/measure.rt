@@ -5,15 +5,13 @@ ghost use Rattle.hm_unify.specs.States.{IsTabled};
 ghost use Rattle.hm_unify.specs.Closing.{class_of, IsClosure, SomeClosure, IsBuiltRoot};
 ghost use Rattle.hm_unify.specs.Shapes.{mark_at, FramesWithin, IsSearching, IsMarked, Advances, Finds, FindsRoot};
 
-use std::alloc::Global;
-use std::collections::HashMap;
-
-use ml_types::{TyId, TyNode};
-use oxml_base::NoMemory;
-
 use crate::classes::{Classes, End};
 use crate::closure::end;
 use crate::node::{node, part};
+use ml_types::{TyId, TyNode};
+use oxml_base::NoMemory;
+use std::alloc::Global;
+use std::collections::HashMap;
 
 /// A class whose parts are being measured, or the number of its nodes as a tree, up to 2,001.
 #[derive(Clone, Copy, Debug, PartialEq, Eq)]
@@ -85,7 +83,9 @@ fn advance(
     ensures goes { IfOk result (λ s. (pairs seen : Pairs) (k : IsClosure nodes.now bound.now pairs classes.now [] seen) (top : ℕ) → IsSearching nodes.now (class_of nodes.now bound.now k.root_of) marks.old stack.old.items top → Advances nodes.now bound.now pairs (class_of nodes.now bound.now k.root_of) marks.new stack.new.items top s) }
 {
     // The stack is not empty.
-    let Some(frame) = stack.pop() else { return Err(NoMemory) };
+    let Some(frame) = stack.pop() else {
+        return Err(NoMemory)
+    };
     let Some(part) = part(node(nodes, TyId(frame.node)), frame.next) else {
         let size = frame.size.min(2000) + 1;
         marks.table.insert(frame.node, Mark::Done(size))?;
@@ -97,13 +97,17 @@ fn advance(
     let class = classes.root(end(nodes, bound, part))?;
     match class {
         End::Free(_) => {
-            let Some(further) = past(frame, 1) else { return Err(NoMemory) };
+            let Some(further) = past(frame, 1) else {
+                return Err(NoMemory)
+            };
             stack.push(further)?;
             Ok(Step::Goes)
         }
         End::Built(inner) => match marks.table.get(&inner).copied() {
             Some(Mark::Done(size)) => {
-                let Some(further) = past(frame, size) else { return Err(NoMemory) };
+                let Some(further) = past(frame, size) else {
+                    return Err(NoMemory)
+                };
                 stack.push(further)?;
                 Ok(Step::Goes)
             }
@@ -171,7 +175,9 @@ pub fn measure(
     ensures { IfOk result (λ size. (pairs seen : Pairs) (k : IsClosure nodes.now bound.now pairs classes.now [] seen) → IsMarked nodes.now (class_of nodes.now bound.now k.root_of) marks.old [] → Finds nodes.now bound.now pairs (class_of nodes.now bound.now k.root_of) id marks.new size) }
 {
     let class = classes.root(end(nodes, bound, id))?;
-    let End::Built(top) = class else { return Ok(Some(1)) };
+    let End::Built(top) = class else {
+        return Ok(Some(1))
+    };
     match marks.table.get(&top).copied() {
         Some(Mark::Done(size)) => Ok(Some(size)),
         // No class is open between two searches.

@@ -3,10 +3,9 @@ ghost use Rattle.std.specs.Prelude.{◌≡◌, ℕ, ◌<◌, ◌≤◌, ◌↔�
 ghost use Rattle.ml_types.specs.Types.{head_of, parts_of};
 ghost use Rattle.hm_unify.specs.Solutions.{variable_of};
 
-use std::alloc::Global;
-
 use ml_types::{TyId, TyNode};
 use oxml_base::{Items, NoMemory};
+use std::alloc::Global;
 
 /// The node at an id.
 pub fn node(nodes: &[TyNode], id: TyId) -> &TyNode

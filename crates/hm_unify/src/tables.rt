@@ -6,13 +6,11 @@ ghost use Rattle.ml_types.specs.Types.{Tree, tree_size};
 ghost use Rattle.hm_unify.specs.Solutions.{Stands, Ends, node_at, variable_of};
 ghost use Rattle.hm_unify.specs.States.{IsTabled, IsTableOf};
 
-use std::alloc::Global;
-
-use ml_types::{TyId, TyNode};
-use oxml_base::{Items, NoMemory};
-
 use crate::bound::end_of;
 use crate::node::{copy_of, node, part, variable};
+use ml_types::{TyId, TyNode};
+use oxml_base::{Items, NoMemory};
+use std::alloc::Global;
 
 /// Makes room for the variable of a node. The map is the same, also where memory runs out.
 pub fn cover(bound: &mut Vec<Option<TyId>>, node: &TyNode) -> Result<(), NoMemory>
@@ -20,7 +18,9 @@ pub fn cover(bound: &mut Vec<Option<TyId>>, node: &TyNode) -> Result<(), NoMemor
     ensures longer { length bound.old.items ≤ length bound.new.items }
     ensures covers { OnOk result ((n : ℕ) → variable_of node.now ≡ Some n → n < length bound.new.items) }
 {
-    let Some(number) = variable(node) else { return Ok(()) };
+    let Some(number) = variable(node) else {
+        return Ok(())
+    };
     for _at in bound.len()..number as usize + 1 {
         bound.push(None)?;
     }
@@ -57,21 +57,29 @@ pub fn size_within(nodes: &[TyNode], bound: &[Option<TyId>], id: TyId, most: u64
         if count == most {
             return most;
         }
-        let Some(inner) = part(top, at as usize) else { return count };
+        let Some(inner) = part(top, at as usize) else {
+            return count
+        };
         count += size_within(nodes, bound, inner, most - count);
     }
     count
 }
 
 /// The table in which each id has the node that stands for it.
-pub fn heads(alloc: Global, nodes: &[TyNode], bound: &[Option<TyId>]) -> Result<Items<TyNode>, NoMemory>
+pub fn heads(
+    alloc: Global,
+    nodes: &[TyNode],
+    bound: &[Option<TyId>],
+) -> Result<Items<TyNode>, NoMemory>
     requires tabled { IsTabled nodes.now bound.now }
     ensures { IfOk result (λ t. IsTableOf (record { nodes = nodes.now; bound = bound.now }) t) }
 {
     let mut table = Items::new(alloc);
     for at in 0..nodes.len() {
         // A table has at most 2^32 nodes.
-        let Ok(id) = u32::try_from(at) else { return Err(NoMemory) };
+        let Ok(id) = u32::try_from(at) else {
+            return Err(NoMemory)
+        };
         let last = end_of(nodes, bound, TyId(id));
         table.push(copy_of(alloc, node(nodes, last))?)?;
     }

@@ -3,13 +3,11 @@ ghost use Rattle.std.specs.Prelude.{◌≡◌, ℕ, ◌<◌, [], Some, length, s
 ghost use Rattle.ml_types.specs.declared.node.TyId.{TyId};
 ghost use Rattle.hm_unify.specs.States.{State, PartsWithin};
 
-use std::alloc::Global;
-use std::test::Fail;
-
+use crate::{Bindings, UnifyErr};
 use ml_types::{TyId, TyNode, TyTable};
 use oxml_base::{Items, NoMemory};
-
-use crate::{Bindings, UnifyErr};
+use std::alloc::Global;
+use std::test::Fail;
 
 /// A node to add: a variable, a declaration with no, one or two arguments, a product or an arrow.
 #[derive(Clone, Copy)]
@@ -52,10 +50,15 @@ const NODES: [Make; 24] = [
 ];
 
 const CLASH0: Result<(), UnifyErr> = Err(UnifyErr::Clash(0));
+
 const CLASH1: Result<(), UnifyErr> = Err(UnifyErr::Clash(1));
+
 const CLASH2: Result<(), UnifyErr> = Err(UnifyErr::Clash(2));
+
 const CYCLE0: Result<(), UnifyErr> = Err(UnifyErr::Cycle(0));
+
 const CYCLE1: Result<(), UnifyErr> = Err(UnifyErr::Cycle(1));
+
 const CYCLE2: Result<(), UnifyErr> = Err(UnifyErr::Cycle(2));
 
 /// Three pairs of ids each.
@@ -212,7 +215,10 @@ fn unchanged_after_refusals(rt: HostRuntime) -> Result<(), Fail> {
     assert!(rt; count == 0);
     let list = bindings.add(TyNode::Con(5, parts))?;
     assert!(rt; list.0 == 1);
-    assert_eq!(rt; bindings.equate(&[(variable, list)]), Err(UnifyErr::Cycle(0)));
+    assert_eq!(rt;
+        bindings.equate(&[(variable, list)]),
+        Err(UnifyErr::Cycle(0))
+    );
     assert!(rt; matches!(bindings.head(variable), TyNode::Var(0)));
     assert_eq!(rt; bindings.size(list), 2);
     let table = bindings.table()?;

@@ -7,10 +7,9 @@ ghost use Rattle.hm_unify.specs.Closing.{PairsWithin};
 ghost use Rattle.hm_unify.specs.States.{IsTabled};
 ghost use Rattle.hm_unify.specs.Walks.{Walk, WalkAll, WalkPairs};
 
-use ml_types::{TyId, TyNode};
-
 use crate::bound::{end_of, is_below};
 use crate::node::{node, part, variable};
+use ml_types::{TyId, TyNode};
 
 /// Binds a free variable to the node that it met.
 fn bind(bound: &mut [Option<TyId>], number: u32, id: TyId)
@@ -72,7 +71,13 @@ pub fn walk(nodes: &[TyNode], bound: &mut [Option<TyId>], left: TyId, right: TyI
 
 /// Makes the parts of two nodes equal, from the left.
 #[cycle(walking)]
-fn walk_parts(nodes: &[TyNode], bound: &mut [Option<TyId>], left: &TyNode, right: &TyNode, most: u64)
+fn walk_parts(
+    nodes: &[TyNode],
+    bound: &mut [Option<TyId>],
+    left: &TyNode,
+    right: &TyNode,
+    most: u64,
+)
     requires tabled { IsTabled nodes.now bound.old }
     requires within_left { (i : ℕ) (p : TyId) → slice_get (parts_of left.now) i ≡ Some p → p.0 < length nodes.now }
     requires within_right { (i : ℕ) (p : TyId) → slice_get (parts_of right.now) i ≡ Some p → p.0 < length nodes.now }
@@ -81,8 +86,12 @@ fn walk_parts(nodes: &[TyNode], bound: &mut [Option<TyId>], left: &TyNode, right
     ensures tabled { IsTabled nodes.now bound.new }
 {
     for at in 0..most {
-        let Some(first) = part(left, at as usize) else { return };
-        let Some(second) = part(right, at as usize) else { return };
+        let Some(first) = part(left, at as usize) else {
+            return
+        };
+        let Some(second) = part(right, at as usize) else {
+            return
+        };
         walk(nodes, bound, first, second, most - 1);
     }
 }

@@ -1,4 +1,4 @@
-use Rattle.std.proofs.Common.{sym, ◌∙◌}
+use Rattle.std.proofs.Common.{sym}
 use Rattle.hm_unify.proofs.Ends.{kind-end}
 use Rattle.hm_unify.proofs.closure.end.Goals as goal
 

@@ -1,6 +1,5 @@
 use Rattle.std.proofs.Common.{◌≡◌, [], ◌∷◌, sym, ap, ◌∙◌, rules}
-use Rattle.hm_unify.specs.declared.classes.End.{End}
-use Rattle.hm_unify.specs.Closing.{class_of, Merges, Clashes}
+use Rattle.hm_unify.specs.Closing.{Merges, Clashes}
 use Rattle.hm_unify.proofs.Equations.{PairsWithin-back}
 use Rattle.hm_unify.proofs.Steps.{IsClosure-merge, IsClosure-same, NoInfinite-clash, IsBuiltIn-root}
 use Rattle.hm_unify.proofs.closure.step.Goals as goal

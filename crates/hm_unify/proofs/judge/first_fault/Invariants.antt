@@ -1,4 +1,4 @@
-use Rattle.std.proofs.Common.{◌≡◌, ℕ, ◌+◌, ◌-◌, ◌<◌, ◌≤◌, length, take}
+use Rattle.std.proofs.Common.{◌-◌, ◌<◌, ◌≤◌, length, take}
 use Rattle.hm_unify.specs.Solutions.{HasFinite, NoFinite}
 use Rattle.hm_unify.proofs.judge.first_fault.Given as goal
 
@@ -7,7 +7,7 @@ invariant-loop-high l = record {
   before : HasFinite l.nodes l.bound (take l.low l.pairs);
   fault : NoFinite l.nodes l.bound (take l.high l.pairs);
   below : l.low < l.high;
-  within : l.high ≤ length l.pairs
+  within : l.high ≤ length l.pairs;
 }
 
 abbrev pub decreases-loop-high : goal.decreases-loop-high

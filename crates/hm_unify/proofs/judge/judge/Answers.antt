@@ -1,4 +1,4 @@
-use Rattle.std.proofs.Common.{◌≡◌, ℕ, [], rules}
+use Rattle.std.proofs.Common.{rules}
 use Rattle.hm_unify.proofs.Verdicts.{judged_first, judged_then, judged_large, judged_small}
 use Rattle.hm_unify.proofs.judge.judge.Goals as goal
 

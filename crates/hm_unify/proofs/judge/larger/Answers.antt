@@ -1,4 +1,4 @@
-use Rattle.std.proofs.Common.{◌≡◌, ℕ, [], ◌∷◌, sym, subst}
+use Rattle.std.proofs.Common.{[], ◌∷◌, sym, subst}
 use Rattle.hm_unify.specs.Closing.{class_of}
 use Rattle.hm_unify.specs.Shapes.{Finds, AreMeasured}
 use Rattle.hm_unify.proofs.Verdicts.{AreMeasured-pair}

@@ -1,5 +1,4 @@
-use Rattle.std.proofs.Common.{◌≡◌, ℕ, ◌+◌, ◌<◌, ◌≤◌, List, [], ◌∷◌, ◌++◌, length, take, Some, get_or, sym, ap, ◌∙◌, subst, refl, arith}
-use Rattle.std.specs.List.{slice_get}
+use Rattle.std.proofs.Common.{[], ◌∷◌, ◌++◌, take, get_or, sym, subst}
 use Rattle.std.proofs.lemmas.Option.{slice_get-get_or, slice_get_past}
 use Rattle.std.proofs.lemmas.List.{take_more}
 use Rattle.ml_types.specs.declared.node.TyId.{TyId}
@@ -28,10 +27,12 @@ loop-pair-preserved c = λ pairs seen k m.
     let xs = c.args.list.now in
     let i = c.loop-pair.pair-index in
     let old = c.loop-pair.invariant pairs seen k m in
-    let f = subst (FindsAll c.args.nodes.now c.args.bound.now pairs name (get_or xs i none ∷ []) c.larger.new.marks) c.in-Some.is (c.in_ok-found.ensures pairs seen k old.1) in
-    (subst (λ v. AreMeasured c.args.nodes.now name v c.max-size.result) (sym (take_more xs i none c.loop-pair-test.true))
-    (subst (AreMeasured c.args.nodes.now name (take i xs ++ get_or xs i none ∷ [])) (sym c.max-size.ensures)
-    (AreMeasured-append c.args.nodes.now name (take i xs) (get_or xs i none ∷ []) c.loop-pair.size c.in-Some.more old.0 f.0)), f.1)
+    let f = subst (FindsAll c.args.nodes.now c.args.bound.now pairs name (get_or xs i none ∷ []) c.larger.new.marks) c.in-Some.is (c.in_ok-found.ensures pairs seen k old.1) in (
+      subst (λ v. AreMeasured c.args.nodes.now name v c.max-size.result) (sym (take_more xs i none c.loop-pair-test.true))
+          (subst (AreMeasured c.args.nodes.now name (take i xs ++ get_or xs i none ∷ [])) (sym c.max-size.ensures)
+          (AreMeasured-append c.args.nodes.now name (take i xs) (get_or xs i none ∷ []) c.loop-pair.size c.in-Some.more old.0 f.0)),
+      f.1,
+    )
 
 pub returns : goal.returns
 returns c = λ pairs seen k m.

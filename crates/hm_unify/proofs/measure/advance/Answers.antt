@@ -1,4 +1,4 @@
-use Rattle.std.proofs.Common.{◌≡◌, ℕ, ◌+◌, ◌<◌, List, [], ◌∷◌, ◌++◌, length, Some, None, sym, ap, ◌∙◌, subst, refl, arith, rules}
+use Rattle.std.proofs.Common.{◌≡◌, ◌+◌, ◌<◌, [], ◌∷◌, ◌++◌, length, Some, None, sym, ap, ◌∙◌, subst, refl, arith, rules}
 use Rattle.std.specs.List.{slice_get}
 use Rattle.std.proofs.lemmas.Bool.{eqb-true}
 use Rattle.std.proofs.lemmas.Option.{slice_get_within}
@@ -6,7 +6,7 @@ use Rattle.ml_types.specs.Types.{parts_of}
 use Rattle.hm_unify.specs.declared.classes.End.TheVariants.{Built}
 use Rattle.hm_unify.specs.declared.measure.Frame.{Frame}
 use Rattle.hm_unify.specs.declared.measure.Mark.TheVariants.{Open, Done}
-use Rattle.hm_unify.specs.Closing.{class_of, IsClosure}
+use Rattle.hm_unify.specs.Closing.{class_of}
 use Rattle.hm_unify.specs.Shapes.{mark_at, HasSize, FramesWithin, IsSearching, IsMarked, first_of}
 use Rattle.hm_unify.proofs.Ends.{none_from}
 use Rattle.hm_unify.proofs.Equations.{empty_from}

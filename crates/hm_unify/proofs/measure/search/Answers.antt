@@ -1,4 +1,4 @@
-use Rattle.std.proofs.Common.{◌≡◌, ℕ, ◌<◌, List, [], ◌∷◌, ◌++◌, length, sym, ap, ◌∙◌, subst, refl}
+use Rattle.std.proofs.Common.{◌≡◌, [], ◌∷◌, ◌++◌, length, sym, ap, ◌∙◌, subst, refl}
 use Rattle.hm_unify.specs.declared.measure.Frame.{Frame}
 use Rattle.hm_unify.specs.Closing.{class_of}
 use Rattle.hm_unify.specs.Shapes.{FramesWithin, IsSearching, Advances}
@@ -12,7 +12,7 @@ loop-step-init c =
     record {
       frames = subst (FramesWithin (length c.args.nodes.now)) (sym items) (c.requires.within, tt);
       searching = λ pairs seen k b m. subst (λ st. IsSearching c.args.nodes.now (class_of c.args.nodes.now c.args.bound.now k.root_of) (record { table = c.insert.new.self }) st c.args.top) (sym items)
-        (IsSearching-start c.args.nodes.now (class_of c.args.nodes.now c.args.bound.now k.root_of) c.args.marks.now (record { table = c.insert.new.self }) g c.args.top m b (λ q. c.in_ok-insert.ensures.updates.0 q) refl refl refl)
+          (IsSearching-start c.args.nodes.now (class_of c.args.nodes.now c.args.bound.now k.root_of) c.args.marks.now (record { table = c.insert.new.self }) g c.args.top m b (λ q. c.in_ok-insert.ensures.updates.0 q) refl refl refl);
     }
 
 pub returns-in-Measured : goal.returns-in-Measured
@@ -30,5 +30,5 @@ loop-step-preserved c =
     record {
       frames = c.in_ok-advance.ensures.frames;
       searching = λ pairs seen k b m. subst (Advances c.args.nodes.now c.args.bound.now pairs (class_of c.args.nodes.now c.args.bound.now k.root_of) c.advance.new.marks c.advance.new.stack.items c.args.top) c.in-Goes.is
-        (c.in_ok-advance.ensures.goes pairs seen k c.args.top (c.loop-step.invariant.searching pairs seen k b m))
+          (c.in_ok-advance.ensures.goes pairs seen k c.args.top (c.loop-step.invariant.searching pairs seen k b m));
     }

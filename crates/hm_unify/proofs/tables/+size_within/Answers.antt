@@ -1,5 +1,4 @@
-use Rattle.std.proofs.Common.{◌≡◌, ◌+◌, ◌-◌, ◌<◌, ◌≤◌, None, sym, ap, ◌∙◌, arith}
-use Rattle.std.specs.List.{slice_get}
+use Rattle.std.proofs.Common.{◌<◌, sym, ◌∙◌, arith}
 use Rattle.ml_types.specs.Types.{parts_of}
 use Rattle.hm_unify.proofs.Ends.{none_from}
 use Rattle.hm_unify.proofs.Sizes.{Counts-more, Counts-full, Counts-all}
@@ -22,5 +21,5 @@ loop-at-preserved t c =
     record {
       counts = Counts-more c.args.nodes.now c.args.bound.now (parts_of c.node-top.result.now) c.loop-at.at c.in-Some.inner c.loop-at.count c.size_within-count.result c.args.most c.loop-at.invariant.counts (sym c.in-Some.ensures) c.loop-at.invariant.most v;
       below = (let w = c.loop-at.invariant.below in omega (arith, w, s));
-      most = omega (arith, left, m)
+      most = omega (arith, left, m);
     }

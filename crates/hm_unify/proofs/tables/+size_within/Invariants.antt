@@ -10,5 +10,5 @@ abbrev pub invariant-loop-at : goal.invariant-loop-at
 invariant-loop-at l = record {
   counts : Counts l.nodes l.bound (take l.at (parts_of l.top)) l.count l.most;
   below : l.at < l.count;
-  most : l.count ≤ l.most
+  most : l.count ≤ l.most;
 }

@@ -1,15 +1,14 @@
-use Rattle.std.proofs.Common.{◌≡◌, ℕ, ◌+◌, ◌-◌, ◌*◌, ◌<◌, ◌≤◌, List, [], ◌∷◌, ◌++◌, length, take, Some, None, sym, ap, ◌∙◌, subst, refl, arith, rules}
+use Rattle.std.proofs.Common.{◌≡◌, ◌+◌, [], ◌∷◌, ◌++◌, take, Some, None, sym, ap, ◌∙◌, subst, arith, rules}
 use Rattle.std.specs.List.{slice_get}
-use Rattle.std.proofs.lemmas.Option.{slice_get_past, slice_get_within}
-use Rattle.ml_types.specs.declared.node.TyId.{TyId}
+use Rattle.std.proofs.lemmas.Option.{slice_get_within}
 use Rattle.ml_types.specs.declared.node.TyNode.TheVariants.{Var}
-use Rattle.ml_types.specs.Types.{Tree, trees, trees_size, parts_of}
-use Rattle.hm_unify.specs.Solutions.{Ends, Solves, node_at, variable_of}
-use Rattle.hm_unify.specs.Walks.{Walk, WalkAll, same_node, same_variable, done}
+use Rattle.ml_types.specs.Types.{parts_of}
+use Rattle.hm_unify.specs.Solutions.{Ends, variable_of}
+use Rattle.hm_unify.specs.Walks.{WalkAll, same_node, same_variable, done}
 use Rattle.hm_unify.proofs.Ends.{none_from}
 use Rattle.hm_unify.proofs.Equations.{take-next, take-end, trees-at}
 use Rattle.hm_unify.proofs.Walks.{WalkAll-push, Walk-back}
-use Rattle.hm_unify.proofs.WalkSteps.{Stepped, at_variable, step-left, step-right, step-parts, no_rise, one_rise, parts-instance, instance-at, length-trees, none-at}
+use Rattle.hm_unify.proofs.WalkSteps.{at_variable, step-left, step-right, step-parts, no_rise, one_rise, parts-instance, instance-at, length-trees, none-at}
 use Rattle.hm_unify.proofs.walk.+walking.Goals as goal
 
 pub walk-returns-then-eq-clause-walk : goal.walk-returns-then-eq-clause-walk
@@ -97,10 +96,10 @@ walk_parts-loop-at-preserved t c =
     record {
       tabled = c.walk.ensures.tabled;
       walk = subst (λ v. WalkAll c.args.nodes.now c.args.bound.now (take (i + 1) ps) v c.walk.new.bound) (sym (take-next qs i c.in-Some-part.second b))
-        (subst (λ v. WalkAll c.args.nodes.now c.args.bound.now v (take i qs ++ c.in-Some-part.second ∷ []) c.walk.new.bound) (sym (take-next ps i c.in-Some.first a))
-        (WalkAll-push c.args.nodes.now c.args.bound.now (take i ps) (take i qs) c.loop-at.bound c.walk.new.bound c.in-Some.first c.in-Some-part.second c.loop-at.invariant.walk c.walk.ensures.walk));
+          (subst (λ v. WalkAll c.args.nodes.now c.args.bound.now v (take i qs ++ c.in-Some-part.second ∷ []) c.walk.new.bound) (sym (take-next ps i c.in-Some.first a))
+          (WalkAll-push c.args.nodes.now c.args.bound.now (take i ps) (take i qs) c.loop-at.bound c.walk.new.bound c.in-Some.first c.in-Some-part.second c.loop-at.invariant.walk c.walk.ensures.walk));
       solved = λ u s e. Walk-back c.args.nodes.now c.loop-at.bound c.in-Some.first c.in-Some-part.second c.walk.new.bound u c.walk.ensures.walk (c.loop-at.invariant.solved u s e) (trees-at u ps qs i c.in-Some.first c.in-Some-part.second e a b);
-      below = (let w = slice_get_within ps i c.in-Some.first a in omega (arith, w))
+      below = (let w = slice_get_within ps i c.in-Some.first a in omega (arith, w));
     }
 
 pub walk_parts-returns-clause-walk : goal.walk_parts-returns-clause-walk

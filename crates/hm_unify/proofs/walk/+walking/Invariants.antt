@@ -1,4 +1,4 @@
-use Rattle.std.proofs.Common.{◌≡◌, ℕ, ◌+◌, ◌*◌, ◌≤◌, length, take}
+use Rattle.std.proofs.Common.{◌≡◌, ◌+◌, ◌*◌, ◌≤◌, length, take}
 use Rattle.ml_types.specs.declared.node.TyId.{TyId}
 use Rattle.ml_types.specs.Types.{Tree, trees, parts_of}
 use Rattle.hm_unify.specs.Solutions.{Solves}
@@ -17,5 +17,5 @@ invariant-walk_parts-loop-at l = record {
   tabled : IsTabled l.nodes l.bound;
   walk : WalkAll l.nodes l.initial.bound (take l.at (parts_of l.left)) (take l.at (parts_of l.right)) l.bound;
   solved : (t : TyId → Tree) → Solves l.nodes l.initial.bound t → trees t (parts_of l.left) ≡ trees t (parts_of l.right) → Solves l.nodes l.bound t;
-  below : l.at ≤ length (parts_of l.left)
+  below : l.at ≤ length (parts_of l.left);
 }

@@ -1,5 +1,4 @@
-use Rattle.std.proofs.Common.{◌≡◌, ℕ, ◌+◌, ◌<◌, ◌≤◌, List, [], ◌∷◌, ◌++◌, length, take, Some, get_or, sym, ap, ◌∙◌, subst, refl, arith}
-use Rattle.std.specs.List.{slice_get}
+use Rattle.std.proofs.Common.{take, get_or, sym, subst}
 use Rattle.std.proofs.lemmas.Option.{slice_get-get_or, slice_get_past}
 use Rattle.std.proofs.lemmas.List.{take_more}
 use Rattle.ml_types.specs.declared.node.TyId.{TyId}
@@ -25,7 +24,7 @@ walk-requires c =
       tabled = c.loop-pair.invariant.tabled;
       within_left = within.0;
       within_right = within.1;
-      instance = (small.0, c.loop-pair.invariant.solved small.0 small.1 small.2, Equates-at small.0 xs i (get_or xs i none) small.2 at, small.3 _ (IsIdOf-at xs i (get_or xs i none) at))
+      instance = (small.0, c.loop-pair.invariant.solved small.0 small.1 small.2, Equates-at small.0 xs i (get_or xs i none) small.2 at, small.3 _ (IsIdOf-at xs i (get_or xs i none) at));
     }
 
 pub loop-pair-preserved : goal.loop-pair-preserved
@@ -37,7 +36,7 @@ loop-pair-preserved c =
     record {
       tabled = c.walk.ensures.tabled;
       walk = subst (λ v. WalkPairs c.args.nodes.now c.args.bound.now v c.walk.new.bound) (sym (take_more xs i none c.loop-pair-test.true)) (WalkPairs-push c.args.nodes.now c.args.bound.now (take i xs) c.loop-pair.bound c.walk.new.bound p.0 p.1 c.loop-pair.invariant.walk c.walk.ensures.walk);
-      solved = λ t s e. Walk-back c.args.nodes.now c.loop-pair.bound p.0 p.1 c.walk.new.bound t c.walk.ensures.walk (c.loop-pair.invariant.solved t s e) (Equates-at t xs i p e at)
+      solved = λ t s e. Walk-back c.args.nodes.now c.loop-pair.bound p.0 p.1 c.walk.new.bound t c.walk.ensures.walk (c.loop-pair.invariant.solved t s e) (Equates-at t xs i p e at);
     }
 
 pub returns-clause-walk : goal.returns-clause-walk

@@ -10,5 +10,5 @@ abbrev pub invariant-loop-pair : goal.invariant-loop-pair
 invariant-loop-pair l = record {
   tabled : IsTabled l.nodes l.bound;
   walk : WalkPairs l.nodes l.initial.bound (take l.pair-index l.pairs) l.bound;
-  solved : (t : TyId → Tree) → Solves l.nodes l.initial.bound t → Equates t l.pairs → Solves l.nodes l.bound t
+  solved : (t : TyId → Tree) → Solves l.nodes l.initial.bound t → Equates t l.pairs → Solves l.nodes l.bound t;
 }

@@ -1,4 +1,4 @@
-use Rattle.std.proofs.Common.{◌≡◌, length, sym, subst}
+use Rattle.std.proofs.Common.{length, sym, subst}
 use Rattle.hm_unify.specs.States.{IsSound, PartsWithin}
 use Rattle.hm_unify.proofs.Growth.{IsSound-push}
 use Rattle.hm_unify.proofs.bindings.Bindings.add.Goals as goal

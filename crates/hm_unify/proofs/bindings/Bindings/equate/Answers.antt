@@ -1,6 +1,5 @@
-use Rattle.std.proofs.Common.{◌≡◌, List, Option, length, drop, sym, ◌∙◌, subst, arith, MatchOption}
+use Rattle.std.proofs.Common.{length, drop, subst, arith, MatchOption}
 use Rattle.std.proofs.lemmas.List.{take_at}
-use Rattle.ml_types.specs.declared.node.TyId.{TyId}
 use Rattle.hm_unify.specs.Solutions.{Bound, Fits}
 use Rattle.hm_unify.specs.States.{State, Equated, Refused}
 use Rattle.hm_unify.proofs.Results.{equate-result}

@@ -1,4 +1,4 @@
-use Rattle.std.proofs.Common.{◌≡◌, length, sym, subst, arith, rules}
+use Rattle.std.proofs.Common.{◌≡◌, length, subst, arith, rules}
 use Rattle.hm_unify.specs.States.{State, AddsFresh}
 use Rattle.hm_unify.proofs.Results.{IsSound-fresh, AddsFresh-from}
 use Rattle.hm_unify.proofs.bindings.Bindings.fresh.Goals as goal

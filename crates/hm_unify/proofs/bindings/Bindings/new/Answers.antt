@@ -1,4 +1,4 @@
-use Rattle.std.proofs.Common.{◌≡◌, sym, subst, ap, ◌∙◌}
+use Rattle.std.proofs.Common.{ap, ◌∙◌}
 use Rattle.std.specs.List.{slice_get}
 use Rattle.hm_unify.proofs.Growth.{IsSound-new}
 use Rattle.hm_unify.proofs.bindings.Bindings.new.Goals as goal
