@@ -1,6 +1,7 @@
 //! The syntax tree of the language, and its names once they are resolved.
 #![tactic(auto)]
 
+mod count;
 mod expr;
 mod pattern;
 mod program;
@@ -9,6 +10,7 @@ mod scoped;
 mod types;
 mod words;
 
+pub use count::nodes;
 pub use expr::{Arm, BinOp, Bind, Expr, ExprKind, FieldExpr};
 pub use pattern::{ConName, FieldPat, Param, Pat, PatKind};
 pub use program::{Item, ItemKind, Program};
