@@ -1,0 +1,13 @@
+pub mod Chains
+pub mod Depths
+pub mod Exits
+pub mod Founds
+pub mod ListReadings
+pub mod NodeCounts
+pub mod ParamReadings
+pub mod Places
+pub mod Refusals
+pub mod Relays
+pub mod Shorter
+pub mod TextTokens
+pub mod Unique
