@@ -8,3 +8,5 @@ mod OpenForms
 mod Programs
 mod Shorter
 mod Unique
+mod Ranks
+mod Refused

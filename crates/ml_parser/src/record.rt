@@ -1,0 +1,68 @@
+//! The fields of a record.
+ghost use Rattle.std.specs.Prelude.{◌≡◌, ◌≤◌, drop, if◌then◌else◌, All, IfOk, IfErr};
+ghost use Rattle.ml_lexer.specs.Tokens.{IsSound};
+ghost use Rattle.ml_parser.specs.Looks.{begins_field, behind_semi};
+ghost use Rattle.ml_parser.specs.Refusals.{IsRefused};
+
+use crate::expression::read_parts;
+use crate::found::{Found, expect, give_up, no_parts, with_part};
+use crate::looks::ListKind;
+use crate::parts::{field, pun};
+use crate::source::Source;
+use ml_cursor::{Front, ParseErr, accept, stands};
+use ml_lexer::Token;
+use ml_tree::FieldExpr;
+use oxml_base::Items;
+use std::alloc::Global;
+
+/// Goes past the `;` behind a field, if there is one, and says whether a field follows.
+#[tactic(auto, unfolding(crate::specs::Looks::begins_field, crate::specs::Looks::behind_semi))]
+fn field_follows(tokens: &[Token], at: &mut usize) -> bool
+    ensures goes { result ≡ begins_field (drop at.old tokens.now) }
+    ensures place { drop at.new tokens.now ≡ (if result then drop 1 (drop at.old tokens.now) else behind_semi (drop at.old tokens.now)) }
+{
+    accept(tokens, at, Front::Semi) && stands(tokens, *at, Front::Lower)
+}
+
+/// `field (; field)* [;]`
+#[cycle(expressions)]
+pub fn read_fields(
+    alloc: Global,
+    source: &Source,
+    at: &mut usize,
+    left: u32,
+) -> Result<Found<Items<FieldExpr>>, ParseErr>
+    requires texts { All (IsSound source.now.text.now) source.now.tokens.now }
+    ensures small { IfOk result (λ f. f.depth ≤ left) }
+    ensures err { IfErr result (IsRefused source.now.tokens.now) }
+{
+    let mut list = no_parts(alloc);
+    'fields: for _ in source.tokens {
+        let field = read_field(alloc, source, at, left)?;
+        list = with_part(list, field)?;
+        if !field_follows(source.tokens, at) {
+            return Ok(list);
+        }
+    }
+    Err(give_up(source.tokens, *at, list))
+}
+
+/// `name [= expr]`
+#[cycle(expressions)]
+fn read_field(
+    alloc: Global,
+    source: &Source,
+    at: &mut usize,
+    left: u32,
+) -> Result<Found<FieldExpr>, ParseErr>
+    requires texts { All (IsSound source.now.text.now) source.now.tokens.now }
+    ensures small { IfOk result (λ f. f.depth ≤ left) }
+    ensures err { IfErr result (IsRefused source.now.tokens.now) }
+{
+    let name = expect(source.tokens, at, Front::Lower)?;
+    if !accept(source.tokens, at, Front::Equal) {
+        return Ok(pun(source.tokens, *at, name, left)?);
+    }
+    let value = read_parts(ListKind::Parts, alloc, source, at, left)?;
+    Ok(field(name, value))
+}
