@@ -1,0 +1,6 @@
+//! Reading tokens: what stands at a place, and which `let`s an `in` closes.
+#![tactic(auto)]
+
+mod lets;
+
+
