@@ -1,5 +1,5 @@
 -- The `let`s that an `in` closes, found by matching `let`s and brackets as parentheses are matched.
-use Rattle.std.specs.Prelude.{ℕ, Bool, true, false, ◌&&◌, ◌==◌, ◌||◌, List, [], ◌∷◌, if◌then◌else◌}
+use Rattle.std.specs.Prelude.{ℕ, Bool, true, false, ◌==◌, ◌||◌, List, [], ◌∷◌, if◌then◌else◌}
 use Rattle.ml_lexer.specs.declared.token.Token.{Token}
 use Rattle.ml_lexer.specs.declared.token.TokenKind.{TokenKind}
 use Rattle.ml_lexer.specs.declared.token.TokenKind.TheVariants.{Word, Sign}

@@ -3,4 +3,4 @@
 
 mod lets;
 
-
+pub use lets::{begins_closed_let, closed_lets};
