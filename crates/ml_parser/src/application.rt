@@ -1,0 +1,77 @@
+//! Applications, and atoms with what goes on behind them.
+
+use crate::atom::read_atom;
+use crate::expression::read_parts;
+use crate::found::{Found, as_part, no_parts};
+use crate::list::read_list;
+use crate::looks::{ListKind, Suffix};
+use crate::begins::{begins_atom, suffix_at};
+use crate::brackets::{close_index, field_of};
+use crate::make::apply;
+use crate::source::Source;
+use ml_cursor::{ParseErr, front_at, pass};
+use ml_tree::Expr;
+use std::alloc::Global;
+
+/// `simple simple*`
+#[cycle(expressions)]
+pub fn read_application(
+    alloc: Global,
+    source: &Source,
+    at: &mut usize,
+    left: u32,
+) -> Result<Found<Expr>, ParseErr> {
+    let function = read_simple(alloc, source, at, left)?;
+    if !begins_atom(front_at(source.tokens, *at)) {
+        return Ok(function);
+    }
+    let function = as_part(source.tokens, *at, function, left)?;
+    let args = read_list(ListKind::Arguments, alloc, source, at, no_parts(alloc), left - 1)?;
+    Ok(apply(alloc, function, args)?)
+}
+
+/// An atom with the `.name` and `.[seq]` behind it.
+#[cycle(expressions)]
+pub fn read_simple(
+    alloc: Global,
+    source: &Source,
+    at: &mut usize,
+    left: u32,
+) -> Result<Found<Expr>, ParseErr> {
+    let mut found = read_atom(alloc, source, at, left)?;
+    while suffix_at(source.tokens, *at) != Suffix::Nothing {
+        found = read_suffix(alloc, source, at, found, left)?;
+    }
+    Ok(found)
+}
+
+/// What was found, with one `.name` or `.[seq]`.
+#[cycle(expressions)]
+fn read_suffix(
+    alloc: Global,
+    source: &Source,
+    at: &mut usize,
+    found: Found<Expr>,
+    left: u32,
+) -> Result<Found<Expr>, ParseErr> {
+    let found = as_part(source.tokens, *at, found, left)?;
+    match suffix_at(source.tokens, *at) {
+        Suffix::Field => Ok(field_of(alloc, source.tokens, at, found)?),
+        _ => Ok(read_index(alloc, source, at, found, left - 1)?),
+    }
+}
+
+/// What was found, with one `.[seq]`.
+#[cycle(expressions)]
+fn read_index(
+    alloc: Global,
+    source: &Source,
+    at: &mut usize,
+    found: Found<Expr>,
+    left: u32,
+) -> Result<Found<Expr>, ParseErr> {
+    pass(source.tokens, at);
+    pass(source.tokens, at);
+    let place = read_parts(ListKind::Statements, alloc, source, at, left)?;
+    Ok(close_index(alloc, source.tokens, at, found, place)?)
+}

@@ -1,0 +1,106 @@
+//! Forms that a bracket closes: the tokens that end them, and their nodes.
+ghost use Rattle.std.specs.Prelude.{◌<◌, ◌^◌, ◌-◌};
+
+use crate::found::{Found, Head, deeper, joined, node};
+use ml_cursor::{Front, ParseErr, stands, take};
+use ml_lexer::Token;
+use ml_parse_types::read_type;
+use ml_tree::{Expr, ExprKind, FieldExpr};
+use oxml_base::Items;
+use sqlite_items::Boxed;
+use std::alloc::Global;
+
+/// What was found, with the `.name` that stands behind it.
+pub fn field_of(
+    alloc: Global,
+    tokens: &[Token],
+    at: &mut usize,
+    found: Found<Expr>,
+) -> Result<Found<Expr>, ParseErr> {
+    take(tokens, at, Front::Dot)?;
+    let name = take(tokens, at, Front::Lower)?;
+    let span = joined(found.tree.span, name);
+    let record = Boxed::new(alloc, found.tree)?;
+    Ok(node(span, ExprKind::Field(record, name), found.depth))
+}
+
+/// `e.[e]`, whose `]` stands at the place.
+pub fn close_index(
+    alloc: Global,
+    tokens: &[Token],
+    at: &mut usize,
+    text: Found<Expr>,
+    index: Found<Expr>,
+) -> Result<Found<Expr>, ParseErr> {
+    let close = take(tokens, at, Front::CloseBracket)?;
+    let span = joined(text.tree.span, close);
+    let depth = deeper(text.depth, index.depth);
+    let text = Boxed::new(alloc, text.tree)?;
+    let index = Boxed::new(alloc, index.tree)?;
+    Ok(node(span, ExprKind::Index(text, index), depth))
+}
+
+/// `[e; ..]`, whose `]` stands at the place.
+pub fn close_list(
+    tokens: &[Token],
+    at: &mut usize,
+    head: Head,
+    list: Found<Items<Expr>>,
+) -> Result<Found<Expr>, ParseErr> {
+    let close = take(tokens, at, Front::CloseBracket)?;
+    Ok(node(joined(head.span, close), ExprKind::List(list.tree), list.depth))
+}
+
+/// `{f = e; ..}`, whose `}` stands at the place.
+pub fn close_record(
+    tokens: &[Token],
+    at: &mut usize,
+    head: Head,
+    fields: Found<Items<FieldExpr>>,
+) -> Result<Found<Expr>, ParseErr> {
+    let close = take(tokens, at, Front::CloseBrace)?;
+    Ok(node(joined(head.span, close), ExprKind::Fields(fields.tree), fields.depth))
+}
+
+/// `(e)` or `begin e end`, whose end stands at the place.
+pub fn close_paren(
+    alloc: Global,
+    tokens: &[Token],
+    at: &mut usize,
+    close: Front,
+    head: Head,
+    inner: Found<Expr>,
+) -> Result<Found<Expr>, ParseErr> {
+    let close = take(tokens, at, close)?;
+    let kind = ExprKind::Paren(Boxed::new(alloc, inner.tree)?);
+    Ok(node(joined(head.span, close), kind, inner.depth))
+}
+
+/// `(e : t)`, whose `:` stands at the place.
+fn close_typed(
+    alloc: Global,
+    tokens: &[Token],
+    at: &mut usize,
+    head: Head,
+    inner: Found<Expr>,
+) -> Result<Found<Expr>, ParseErr> {
+    take(tokens, at, Front::Colon)?;
+    let ty = read_type(alloc, tokens, at)?;
+    let close = take(tokens, at, Front::CloseParen)?;
+    let kind = ExprKind::Typed(Boxed::new(alloc, inner.tree)?, ty);
+    Ok(node(joined(head.span, close), kind, inner.depth))
+}
+
+/// `(e)` or `(e : t)`, behind whose expression the place is.
+pub fn close_parens(
+    alloc: Global,
+    tokens: &[Token],
+    at: &mut usize,
+    head: Head,
+    inner: Found<Expr>,
+) -> Result<Found<Expr>, ParseErr> {
+    if stands(tokens, *at, Front::Colon) {
+        return Ok(close_typed(alloc, tokens, at, head, inner)?);
+    }
+    Ok(close_paren(alloc, tokens, at, Front::CloseParen, head, inner)?)
+}
