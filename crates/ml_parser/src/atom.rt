@@ -1,7 +1,7 @@
 //! Atoms: leaves, parentheses, lists and records.
 
 use crate::expression::read_parts;
-use crate::found::{Found, head, no_parts, refuse};
+use crate::found::{Found, open_form, refuse};
 use crate::leaf::{read_leaf, read_text};
 use crate::list::read_list;
 use crate::looks::{AtomLead, ListKind};
@@ -40,7 +40,7 @@ fn read_paren(
     at: &mut usize,
     left: u32,
 ) -> Result<Found<Expr>, ParseErr> {
-    let head = head(source.tokens, at, left)?;
+    let head = open_form(source.tokens, at, left)?;
     let inner = read_parts(ListKind::Statements, alloc, source, at, head.below)?;
     Ok(close_parens(alloc, source.tokens, at, head, inner)?)
 }
@@ -53,7 +53,7 @@ fn read_begin(
     at: &mut usize,
     left: u32,
 ) -> Result<Found<Expr>, ParseErr> {
-    let head = head(source.tokens, at, left)?;
+    let head = open_form(source.tokens, at, left)?;
     let inner = read_parts(ListKind::Statements, alloc, source, at, head.below)?;
     Ok(close_paren(alloc, source.tokens, at, Front::End, head, inner)?)
 }
@@ -66,8 +66,8 @@ fn read_elements(
     at: &mut usize,
     left: u32,
 ) -> Result<Found<Expr>, ParseErr> {
-    let head = head(source.tokens, at, left)?;
-    let list = read_list(ListKind::Elements, alloc, source, at, no_parts(alloc), head.below)?;
+    let head = open_form(source.tokens, at, left)?;
+    let list = read_list(ListKind::Elements, alloc, source, at, head.below)?;
     Ok(close_list(source.tokens, at, head, list)?)
 }
 
@@ -79,7 +79,7 @@ fn read_record(
     at: &mut usize,
     left: u32,
 ) -> Result<Found<Expr>, ParseErr> {
-    let head = head(source.tokens, at, left)?;
+    let head = open_form(source.tokens, at, left)?;
     let fields = read_fields(alloc, source, at, head.below)?;
     Ok(close_record(source.tokens, at, head, fields)?)
 }

@@ -1,15 +1,16 @@
 //! Expressions by levels: sequences, tuples, operators, applications.
+ghost use Rattle.std.specs.Prelude.{◌≡◌, ◌<◌, ◌≤◌};
 
 use crate::atom::read_atom;
-use crate::application::read_simple;
-use crate::found::{Found, as_part, closed_by, one_part};
+use crate::found::{Found, as_part, closed_by};
 use crate::list::{goes_on, read_list};
 use crate::looks::{Joint, ListKind};
-use crate::make::{infix, several};
+use crate::make::{gathered, infix};
 use crate::operand::read_operand;
-use crate::operator::{LAST_LEVEL, groups_left, take_operator};
+use crate::operators::{LAST_LEVEL, groups_left, operator_at};
+use crate::simple::read_simple;
 use crate::source::Source;
-use ml_cursor::{Front, ParseErr, take};
+use ml_cursor::{Front, ParseErr, pass, take};
 use ml_tree::Expr;
 use std::alloc::Global;
 
@@ -29,7 +30,7 @@ pub fn read_part(
     }
 }
 
-/// A sequence or a tuple: one part is itself, several are a node.
+/// A sequence, a tuple or an application: one part is itself, several are a node.
 #[cycle(expressions)]
 pub fn read_parts(
     kind: ListKind,
@@ -43,8 +44,8 @@ pub fn read_parts(
         return Ok(first);
     }
     let first = as_part(source.tokens, *at, first, left)?;
-    let parts = read_list(kind, alloc, source, at, one_part(alloc, first)?, left - 1)?;
-    Ok(several(kind, parts))
+    let others = read_list(kind, alloc, source, at, left - 1)?;
+    Ok(gathered(alloc, kind, first, others)?)
 }
 
 /// An operand with the operators up to a level that stand behind it.
@@ -55,64 +56,74 @@ pub fn read_operators(
     source: &Source,
     at: &mut usize,
     left: u32,
-) -> Result<Found<Expr>, ParseErr> {
+) -> Result<Found<Expr>, ParseErr>
+    requires level { level ≤ 8 }
+{
     let mut found = read_operand(alloc, source, at, left)?;
-    for next in 0..level {
-        found = read_level(next + 1, alloc, source, at, found, left)?;
+    for lower in 0..level {
+        found = read_level(lower, alloc, source, at, found, left)?;
     }
     Ok(found)
 }
 
-/// What was found, as the first operand of the operators of a level that stand behind it.
+/// What was found, with the operators behind it of the level above `lower`.
 #[cycle(expressions)]
 pub fn read_level(
-    level: u8,
+    lower: u8,
     alloc: Global,
     source: &Source,
     at: &mut usize,
     first: Found<Expr>,
     left: u32,
-) -> Result<Found<Expr>, ParseErr> {
-    if groups_left(level) {
-        return Ok(read_to_left(level, alloc, source, at, first, left)?);
+) -> Result<Found<Expr>, ParseErr>
+    requires level { lower < 8 }
+{
+    if groups_left(lower + 1) {
+        return Ok(read_to_left(lower, alloc, source, at, first, left)?);
     }
-    match take_operator(source.tokens, at, level) {
-        Some(op) => Ok(read_infix(op, level, alloc, source, at, first, left)?),
+    match operator_at(source.tokens, *at, lower + 1) {
+        Some(joint) => Ok(read_second(joint, lower + 1, alloc, source, at, first, left)?),
         None => Ok(first),
     }
 }
 
-/// The operators of a level that groups to the left.
+/// The same for a level that groups to the left.
 #[cycle(expressions)]
 fn read_to_left(
-    level: u8,
+    lower: u8,
     alloc: Global,
     source: &Source,
     at: &mut usize,
     first: Found<Expr>,
     left: u32,
-) -> Result<Found<Expr>, ParseErr> {
+) -> Result<Found<Expr>, ParseErr>
+    requires level { lower < 8 }
+{
     let mut found = first;
-    while let Some(op) = take_operator(source.tokens, at, level) {
-        found = read_infix(op, level - 1, alloc, source, at, found, left)?;
+    while let Some(joint) = operator_at(source.tokens, *at, lower + 1) {
+        found = read_second(joint, lower, alloc, source, at, found, left)?;
     }
     Ok(found)
 }
 
-/// The operand behind an operator, of the operators up to a level.
+/// A first operand, the operator behind it, and the second operand, which has the operators up to a
+/// level.
 #[cycle(expressions)]
-fn read_infix(
-    op: Joint,
+fn read_second(
+    joint: Joint,
     level: u8,
     alloc: Global,
     source: &Source,
     at: &mut usize,
     first: Found<Expr>,
     left: u32,
-) -> Result<Found<Expr>, ParseErr> {
+) -> Result<Found<Expr>, ParseErr>
+    requires level { level ≤ 8 }
+{
     let first = as_part(source.tokens, *at, first, left)?;
+    pass(source.tokens, at);
     let second = read_operators(level, alloc, source, at, left - 1)?;
-    Ok(infix(alloc, op, first, second)?)
+    Ok(infix(alloc, joint, first, second)?)
 }
 
 /// A sequence, and the token that has to stand behind it.

@@ -89,7 +89,7 @@ pub struct Head {
 }
 
 /// Goes past the first token of a form that may have the depth `left`.
-pub fn head(tokens: &[Token], at: &mut usize, left: u32) -> Result<Head, ParseErr> {
+pub fn open_form(tokens: &[Token], at: &mut usize, left: u32) -> Result<Head, ParseErr> {
     if left == 0 {
         return Err(refuse(tokens, *at));
     }

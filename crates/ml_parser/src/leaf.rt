@@ -1,21 +1,27 @@
 //! Atoms without parts.
+ghost use Rattle.std.specs.Prelude.{◌≡◌, ◌-◌, drop};
+ghost use Rattle.ml_parser.specs.Trees.{width, leaf_kind};
 
-use crate::found::{Found, head, joined, node, refuse};
+use crate::found::{Found, joined, node, open_form, refuse};
 use crate::looks::Leaf;
 use crate::source::Source;
 use ml_cursor::{ParseErr, char_at, int_at, pass, span_at};
 use ml_lexer::{Token, text_bytes};
 use ml_tree::{ConName, Expr, ExprKind};
-use oxml_base::Span;
 use sqlite_items::at as token_at;
 use std::alloc::Global;
 
-/// How many tokens a leaf has.
-fn width(leaf: Leaf) -> usize {
+/// Goes to the last token of a leaf.
+fn to_last(leaf: Leaf, tokens: &[Token], at: &mut usize)
+    ensures { drop at.new tokens.now ≡ drop (width leaf - 1) (drop at.old tokens.now) }
+{
     match leaf {
-        Leaf::Path => 3,
-        Leaf::Unit | Leaf::Nil => 2,
-        _ => 1,
+        Leaf::Path => {
+            pass(tokens, at);
+            pass(tokens, at);
+        }
+        Leaf::Unit | Leaf::Nil => pass(tokens, at),
+        _ => {}
     }
 }
 
@@ -24,14 +30,17 @@ fn constant(name: ConName) -> ExprKind {
     ExprKind::Con { name, arg: None }
 }
 
-/// What a leaf is, by the first of its tokens and the last.
-fn leaf_kind(leaf: Leaf, tokens: &[Token], at: usize, first: Span, last: Span) -> ExprKind {
+/// What a leaf is, whose tokens are those from one place up to another and the one there.
+fn leaf_kind(leaf: Leaf, tokens: &[Token], at: usize, last: usize) -> ExprKind
+    requires last { drop last tokens.now ≡ drop (width leaf - 1) (drop at tokens.now) }
+    ensures { result ≡ leaf_kind leaf (drop at tokens.now) }
+{
     match leaf {
         Leaf::Int => ExprKind::Int(int_at(tokens, at)),
         Leaf::Char => ExprKind::Char(char_at(tokens, at)),
-        Leaf::Name => ExprKind::Name(first),
-        Leaf::Path => ExprKind::Path(first, last),
-        Leaf::Upper => constant(ConName::Named(first)),
+        Leaf::Name => ExprKind::Name(span_at(tokens, at)),
+        Leaf::Path => ExprKind::Path(span_at(tokens, at), span_at(tokens, last)),
+        Leaf::Upper => constant(ConName::Named(span_at(tokens, at))),
         Leaf::True => constant(ConName::True),
         Leaf::False => constant(ConName::False),
         Leaf::Unit => constant(ConName::Unit),
@@ -50,14 +59,11 @@ pub fn read_leaf(
         return Err(refuse(tokens, *at));
     }
     let start = *at;
-    let first = span_at(tokens, start);
-    for _ in 1..width(leaf) {
-        pass(tokens, at);
-    }
-    let last = span_at(tokens, *at);
+    to_last(leaf, tokens, at);
+    let kind = leaf_kind(leaf, tokens, start, *at);
+    let span = joined(span_at(tokens, start), span_at(tokens, *at));
     pass(tokens, at);
-    let kind = leaf_kind(leaf, tokens, start, first, last);
-    Ok(node(joined(first, last), kind, 0))
+    Ok(node(span, kind, 0))
 }
 
 /// The text literal at this place.
@@ -70,7 +76,7 @@ pub fn read_text(
     let Some(token) = token_at(source.tokens, *at) else {
         return Err(refuse(source.tokens, *at));
     };
-    let head = head(source.tokens, at, left)?;
+    let head = open_form(source.tokens, at, left)?;
     match text_bytes(alloc, source.text, *token) {
         Ok(literal) => Ok(node(head.span, ExprKind::Text(literal), 0)),
         Err(_) => Err(ParseErr::NoMemory),

@@ -1,36 +1,78 @@
 //! Lists of expressions: sequences, tuples, elements of a list literal, arguments.
+ghost use Rattle.std.specs.Prelude.{◌≡◌, drop, if◌then◌else◌};
+ghost use Rattle.ml_parser.specs.Looks.{is_comma, is_semi, joins_operands, begins_statement, behind_statements, goes_on, next, behind};
 
+use crate::begins::{begins_atom, begins_expression, second_at};
 use crate::expression::read_part;
-use crate::found::{Found, with_part};
-use crate::begins::{begins, begins_atom};
+use crate::found::{Found, no_parts, with_part};
 use crate::looks::ListKind;
+use crate::operators::operator_of;
 use crate::source::Source;
-use ml_cursor::{Front, ParseErr, accept, front_at};
+use ml_cursor::{Front, ParseErr, accept, front_at, pass};
+use ml_lexer::Token;
 use ml_tree::Expr;
 use oxml_base::Items;
 use std::alloc::Global;
 
-/// Goes past what stands between two parts of a list, and says whether another part follows. A `;`
-/// behind which no expression begins ends the list; it is passed too.
-pub fn goes_on(kind: ListKind, source: &Source, at: &mut usize) -> bool {
-    match kind {
-        ListKind::Statements | ListKind::Elements => accept(source.tokens, at, Front::Semi) && begins(source, *at),
-        ListKind::Parts => accept(source.tokens, at, Front::Comma),
-        ListKind::Arguments => begins_atom(front_at(source.tokens, *at)),
+fn is_comma(front: Front) -> bool
+    ensures { result ≡ is_comma front }
+{
+    match front {
+        Front::Comma => true,
+        _ => false,
     }
 }
 
-/// The list with all parts that follow, one or more.
+/// Whether an operand goes on with this.
+fn joins_operands(front: Front) -> bool
+    ensures { result ≡ joins_operands front }
+{
+    is_comma(front) || operator_of(front).is_some()
+}
+
+/// Goes past the `;` behind an expression, if it belongs to the sequence, and says whether another
+/// expression follows. A `;` with no expression behind it is the trailing one, but before an operator
+/// or a `,` it belongs to nothing: the form that it would end is open, and no left operand.
+fn goes_on_statements(source: &Source, at: &mut usize) -> bool
+    ensures goes { result ≡ begins_statement (drop at.old source.now.tokens.now) }
+    ensures place { drop at.new source.now.tokens.now ≡ (if result then drop 1 (drop at.old source.now.tokens.now) else behind_statements (drop at.old source.now.tokens.now)) }
+{
+    let start = *at;
+    if !accept(source.tokens, at, Front::Semi) {
+        return false;
+    }
+    if begins_expression(source, *at) {
+        return true;
+    }
+    if joins_operands(front_at(source.tokens, *at)) {
+        *at = start;
+    }
+    false
+}
+
+/// Goes past what stands between two parts of a list, and says whether another part follows. What
+/// belongs to the list behind its last part is passed too.
+pub fn goes_on(kind: ListKind, source: &Source, at: &mut usize) -> bool
+    ensures goes { result ≡ goes_on kind (drop at.old source.now.tokens.now) }
+    ensures place { drop at.new source.now.tokens.now ≡ (if result then next kind (drop at.old source.now.tokens.now) else behind kind (drop at.old source.now.tokens.now)) }
+{
+    match kind {
+        ListKind::Statements | ListKind::Elements => goes_on_statements(source, at),
+        ListKind::Parts => accept(source.tokens, at, Front::Comma),
+        ListKind::Arguments => begins_atom(source.tokens, *at),
+    }
+}
+
+/// The parts of a list, one or more.
 #[cycle(expressions)]
 pub fn read_list(
     kind: ListKind,
     alloc: Global,
     source: &Source,
     at: &mut usize,
-    list: Found<Items<Expr>>,
     left: u32,
 ) -> Result<Found<Items<Expr>>, ParseErr> {
-    let mut list = list;
+    let mut list = no_parts(alloc);
     'parts: loop {
         let part = read_part(kind, alloc, source, at, left)?;
         list = with_part(list, part)?;

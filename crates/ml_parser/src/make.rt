@@ -9,22 +9,11 @@ use oxml_base::{Items, Span};
 use sqlite_items::Boxed;
 use std::alloc::Global;
 
-/// Several parts, with `;` or `,` between them.
-pub fn several(kind: ListKind, parts: Found<Items<Expr>>) -> Found<Expr> {
-    let span = extent_of(parts.tree.as_slice());
-    let node_kind = match kind {
-        ListKind::Parts => ExprKind::Tuple(parts.tree),
-        _ => ExprKind::Seq(parts.tree),
-    };
-    node(span, node_kind, parts.depth)
-}
-
-/// From the start of the first of a list to the end of the last.
-fn extent_of(list: &[Expr]) -> Span {
+/// Where the last of a list ends.
+fn end_of_last(list: &[Expr]) -> u32 {
     match list {
-        [] => Span { start: 0, end: 0 },
-        [first, .., last] => joined(first.span, last.span),
-        [only] => only.span,
+        [.., last] => last.span.end,
+        [] => 0,
     }
 }
 
@@ -46,17 +35,48 @@ pub fn infix(
     Ok(node(span, kind, depth))
 }
 
-/// A function with its arguments.
-pub fn apply(
+/// A list whose first stands before the others.
+fn with_first(
     alloc: Global,
-    function: Found<Expr>,
-    args: Found<Items<Expr>>,
+    first: Expr,
+    others: Items<Expr>,
+) -> Result<Items<Expr>, ParseErr> {
+    let mut list = Items::new(alloc);
+    list.push(first)?;
+    list.append(others)?;
+    Ok(list)
+}
+
+/// A function and its arguments, or several parts with `,` or `;` between them.
+fn gathered_kind(
+    alloc: Global,
+    kind: ListKind,
+    first: Expr,
+    others: Items<Expr>,
+) -> Result<ExprKind, ParseErr> {
+    match kind {
+        ListKind::Arguments => {
+            let function = Boxed::new(alloc, first)?;
+            Ok(ExprKind::Apply(function, others))
+        }
+        ListKind::Parts => Ok(ExprKind::Tuple(with_first(alloc, first, others)?)),
+        ListKind::Statements => Ok(ExprKind::Seq(with_first(alloc, first, others)?)),
+        ListKind::Elements => Ok(ExprKind::List(with_first(alloc, first, others)?)),
+    }
+}
+
+/// The node of a first expression and those behind it.
+pub fn gathered(
+    alloc: Global,
+    kind: ListKind,
+    first: Found<Expr>,
+    others: Found<Items<Expr>>,
 ) -> Result<Found<Expr>, ParseErr> {
-    let last = extent_of(args.tree.as_slice());
-    let span = joined(function.tree.span, last);
-    let depth = deeper(function.depth, args.depth);
-    let function = Boxed::new(alloc, function.tree)?;
-    Ok(node(span, ExprKind::Apply(function, args.tree), depth))
+    let start = first.tree.span.start;
+    let end = end_of_last(others.tree.as_slice());
+    let depth = deeper(first.depth, others.depth);
+    let gathered = gathered_kind(alloc, kind, first.tree, others.tree)?;
+    Ok(node(Span { start, end }, gathered, depth))
 }
 
 /// A constructor with its argument.

@@ -1,16 +1,16 @@
 //! Operands: open forms, prefixes, and what begins with an atom.
 
-use crate::application::{read_application, read_simple};
 use crate::arms::read_arms;
 use crate::bind::read_binds;
 use crate::expression::{read_behind, read_level, read_operators, read_parts, read_until};
-use crate::found::{Found, before, head, refuse};
+use crate::found::{Found, before, open_form, refuse};
 use crate::looks::{Lead, ListKind};
 use crate::begins::lead_at;
 use crate::brackets::close_paren;
 use crate::forms::{Branches, borrow, choice, fun, function, let_in, matching};
 use crate::make::{constructor, exclave, minus, overwrite, worded};
-use crate::operator::CONS_LEVEL;
+use crate::operators::CONS_LEVEL;
+use crate::simple::read_simple;
 use crate::source::Source;
 use crate::target::read_borrowed;
 use ml_cursor::{Front, ParseErr, accept, front_at, take};
@@ -39,7 +39,7 @@ pub fn read_operand(
         Lead::Word(words) => Ok(read_worded(words, alloc, source, at, left)?),
         Lead::Overwrite => Ok(read_overwrite(alloc, source, at, left)?),
         Lead::Constructor => Ok(read_block(alloc, source, at, left)?),
-        Lead::Application => Ok(read_application(alloc, source, at, left)?),
+        Lead::Application => Ok(read_parts(ListKind::Arguments, alloc, source, at, left)?),
     }
 }
 
@@ -51,7 +51,7 @@ fn read_let(
     at: &mut usize,
     left: u32,
 ) -> Result<Found<Expr>, ParseErr> {
-    let head = head(source.tokens, at, left)?;
+    let head = open_form(source.tokens, at, left)?;
     let recursive = accept(source.tokens, at, Front::Rec);
     let binds = read_binds(alloc, source, at, head.below)?;
     let body = read_behind(Front::In, alloc, source, at, head.below)?;
@@ -66,7 +66,7 @@ fn read_borrow(
     at: &mut usize,
     left: u32,
 ) -> Result<Found<Expr>, ParseErr> {
-    let head = head(source.tokens, at, left)?;
+    let head = open_form(source.tokens, at, left)?;
     let names = read_borrowed(source.tokens, at)?;
     let body = read_behind(Front::In, alloc, source, at, head.below)?;
     Ok(borrow(alloc, head, names, body)?)
@@ -80,7 +80,7 @@ fn read_match(
     at: &mut usize,
     left: u32,
 ) -> Result<Found<Expr>, ParseErr> {
-    let head = head(source.tokens, at, left)?;
+    let head = open_form(source.tokens, at, left)?;
     let scrutinee = read_until(Front::With, alloc, source, at, head.below)?;
     let arms = read_arms(alloc, source, at, head.below)?;
     Ok(matching(alloc, head, scrutinee, arms)?)
@@ -94,7 +94,7 @@ fn read_function(
     at: &mut usize,
     left: u32,
 ) -> Result<Found<Expr>, ParseErr> {
-    let head = head(source.tokens, at, left)?;
+    let head = open_form(source.tokens, at, left)?;
     let arms = read_arms(alloc, source, at, head.below)?;
     Ok(function(head, arms))
 }
@@ -107,7 +107,7 @@ fn read_fun(
     at: &mut usize,
     left: u32,
 ) -> Result<Found<Expr>, ParseErr> {
-    let head = head(source.tokens, at, left)?;
+    let head = open_form(source.tokens, at, left)?;
     let params = read_params(alloc, source.text, source.tokens, at, head.below)?;
     let body = read_behind(Front::Arrow, alloc, source, at, head.below)?;
     Ok(fun(alloc, head, params, body)?)
@@ -121,7 +121,7 @@ fn read_if(
     at: &mut usize,
     left: u32,
 ) -> Result<Found<Expr>, ParseErr> {
-    let head = head(source.tokens, at, left)?;
+    let head = open_form(source.tokens, at, left)?;
     let condition = read_until(Front::Then, alloc, source, at, head.below)?;
     let branches = read_branches(alloc, source, at, head.below)?;
     Ok(choice(alloc, head, condition, branches)?)
@@ -162,7 +162,7 @@ fn read_exclave(
     at: &mut usize,
     left: u32,
 ) -> Result<Found<Expr>, ParseErr> {
-    let head = head(source.tokens, at, left)?;
+    let head = open_form(source.tokens, at, left)?;
     let body = read_parts(ListKind::Statements, alloc, source, at, head.below)?;
     Ok(exclave(alloc, head, body)?)
 }
@@ -175,7 +175,7 @@ fn read_minus(
     at: &mut usize,
     left: u32,
 ) -> Result<Found<Expr>, ParseErr> {
-    let head = head(source.tokens, at, left)?;
+    let head = open_form(source.tokens, at, left)?;
     let operand = read_operand(alloc, source, at, head.below)?;
     Ok(minus(alloc, head, operand)?)
 }
@@ -189,7 +189,7 @@ fn read_worded(
     at: &mut usize,
     left: u32,
 ) -> Result<Found<Expr>, ParseErr> {
-    let head = head(source.tokens, at, left)?;
+    let head = open_form(source.tokens, at, left)?;
     let operand = read_operand(alloc, source, at, head.below)?;
     Ok(worded(alloc, words, head, operand)?)
 }
@@ -202,7 +202,7 @@ fn read_overwrite(
     at: &mut usize,
     left: u32,
 ) -> Result<Found<Expr>, ParseErr> {
-    let head = head(source.tokens, at, left)?;
+    let head = open_form(source.tokens, at, left)?;
     let name = take(source.tokens, at, Front::Lower)?;
     take(source.tokens, at, Front::With)?;
     let con = read_con(alloc, source, at, head.below)?;
@@ -232,7 +232,7 @@ fn read_block(
     at: &mut usize,
     left: u32,
 ) -> Result<Found<Expr>, ParseErr> {
-    let head = head(source.tokens, at, left)?;
+    let head = open_form(source.tokens, at, left)?;
     let arg = read_simple(alloc, source, at, head.below)?;
     Ok(constructor(alloc, head, arg)?)
 }
@@ -245,9 +245,9 @@ fn read_cell(
     at: &mut usize,
     left: u32,
 ) -> Result<Found<Expr>, ParseErr> {
-    let head = head(source.tokens, at, left)?;
+    let head = open_form(source.tokens, at, left)?;
     let first = read_operators(CONS_LEVEL - 1, alloc, source, at, head.below)?;
     let first = before(source.tokens, *at, Front::ColonColon, first)?;
-    let cell = read_level(CONS_LEVEL, alloc, source, at, first, head.below)?;
+    let cell = read_level(CONS_LEVEL - 1, alloc, source, at, first, head.below)?;
     Ok(close_paren(alloc, source.tokens, at, Front::CloseParen, head, cell)?)
 }

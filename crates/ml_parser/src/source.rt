@@ -1,4 +1,5 @@
 ghost use Rattle.std.specs.Prelude.{◌≡◌, ◌≤◌, length};
+ghost use Rattle.ml_cursor.specs.Lets.{closed_lets};
 
 use ml_lexer::Token;
 
@@ -11,5 +12,5 @@ pub struct Source<'a> {
     /// For each token whether it is a `let` that an `in` closes.
     pub lets: &'a [bool],
     ghost few: { length tokens.now ≤ 1000000 },
-    ghost table: { length lets.now ≡ length tokens.now },
+    ghost table: { lets.now ≡ closed_lets tokens.now },
 }

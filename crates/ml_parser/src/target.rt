@@ -1,22 +1,17 @@
 //! What stands before the value of a bind.
 
 use crate::found::refuse;
-use crate::begins::front_behind;
+use crate::begins::binds_function;
 use crate::forms::Borrowed;
 use crate::parts::Target;
 use crate::source::Source;
-use ml_cursor::{Front, ParseErr, accept, pass, span_at, stands, take};
+use ml_cursor::{Front, ParseErr, accept, pass, span_at, take};
 use ml_lexer::Token;
-use ml_parse_patterns::{FoundParams, FoundPat, begins_param, read_params, read_pattern};
+use ml_parse_patterns::{FoundParams, FoundPat, read_params, read_pattern};
 use ml_parse_types::read_type;
 use ml_tree::{Pat, PatKind, TyExpr, Words};
 use oxml_base::Items;
 use std::alloc::Global;
-
-/// Whether a name with a parameter stands here.
-fn is_function(tokens: &[Token], at: usize) -> bool {
-    stands(tokens, at, Front::Lower) && begins_param(front_behind(tokens, at, 1))
-}
 
 /// The pattern that is the name at this place.
 fn name_at(tokens: &[Token], at: usize) -> FoundPat {
@@ -59,7 +54,7 @@ pub fn read_target(
     at: &mut usize,
     left: u32,
 ) -> Result<Target, ParseErr> {
-    if is_function(source.tokens, *at) {
+    if binds_function(source.tokens, *at) {
         return Ok(read_function_target(alloc, source, at, left)?);
     }
     let pat = read_pattern(alloc, source.text, source.tokens, at, left)?;

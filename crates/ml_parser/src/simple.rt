@@ -1,34 +1,15 @@
-//! Applications, and atoms with what goes on behind them.
+//! Atoms with what goes on behind them.
 
 use crate::atom::read_atom;
 use crate::expression::read_parts;
-use crate::found::{Found, as_part, no_parts};
-use crate::list::read_list;
+use crate::found::{Found, as_part};
 use crate::looks::{ListKind, Suffix};
-use crate::begins::{begins_atom, suffix_at};
+use crate::begins::suffix_at;
 use crate::brackets::{close_index, field_of};
-use crate::make::apply;
 use crate::source::Source;
-use ml_cursor::{ParseErr, front_at, pass};
+use ml_cursor::{ParseErr, pass};
 use ml_tree::Expr;
 use std::alloc::Global;
-
-/// `simple simple*`
-#[cycle(expressions)]
-pub fn read_application(
-    alloc: Global,
-    source: &Source,
-    at: &mut usize,
-    left: u32,
-) -> Result<Found<Expr>, ParseErr> {
-    let function = read_simple(alloc, source, at, left)?;
-    if !begins_atom(front_at(source.tokens, *at)) {
-        return Ok(function);
-    }
-    let function = as_part(source.tokens, *at, function, left)?;
-    let args = read_list(ListKind::Arguments, alloc, source, at, no_parts(alloc), left - 1)?;
-    Ok(apply(alloc, function, args)?)
-}
 
 /// An atom with the `.name` and `.[seq]` behind it.
 #[cycle(expressions)]
