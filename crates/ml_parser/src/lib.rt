@@ -1,0 +1,6 @@
+//! The parser: from the tokens of a source to its syntax tree.
+#![tactic(auto)]
+
+mod looks;
+
+pub use looks::{AtomLead, Joint, Leaf, Lead, ListKind, Suffix};
