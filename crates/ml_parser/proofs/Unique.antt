@@ -23,10 +23,10 @@ use Rattle.ml_parser.specs.Stubs.{ReadsType, ReadsPattern, ReadsParams}
 use Rattle.ml_parser.specs.Grammar.{Part, tuple, seq, operators, arms, Kind, ItemOf, HasType, ResultBy, no_result, result, Reads, AtomBy, SuffixBy, ListedBy, LevelBy, OperandBy, Lists, ItemBy, more, to_next, past, exprs, an_atom, a_simple, an_application, an_operand, a_level, a_tuple, a_sequence, a_leaf, a_text, a_paren, a_typed, a_begin, a_list, a_record, no_suffix, a_field, an_index, alone, several, no_operator, to_left, to_right, an_apply, a_constructor, a_minus, a_word, an_overwrite, an_overwrite_pair, a_let, a_borrow, a_match, a_function, a_fun, an_if, an_if_else, an_exclave, the_last, one_more, an_expression, a_set_field, a_pun, an_arm, a_guarded_arm, a_function_bind, a_pattern_bind}
 
 -- the second reading is the first
-record Same {A : Type 0} (x y : A) (d c : ℕ) (r s : List Token) : Type 0 where
-  tree : y ≡ x
-  depth : c ≡ d
-  rest : s ≡ r
+pub record Same {A : Type 0} (x y : A) (d c : ℕ) (r s : List Token) : Type 0 where
+  pub tree : y ≡ x
+  pub depth : c ≡ d
+  pub rest : s ≡ r
 
 it : {A : Type 0} (x : A) (d : ℕ) (r : List Token) → Same x x d d r r
 it x d r = record { tree = refl; depth = refl; rest = refl }
@@ -85,7 +85,7 @@ no_both : {us vs : List Token} {b c : Bool} (f : List Token → Bool) (P : Type 
 no_both f P i p q n = absurd (n (sym p ∙ (ap f (sym i) ∙ q)))
 
 mutual
-  same : {text : List ℕ} {p : Part} {ts r s : List Token} {e f : Expr} {d c : ℕ} → Reads text p ts e d r → Reads text p ts f c s → Same e f d c r s
+  pub same : {text : List ℕ} {p : Part} {ts r s : List Token} {e f : Expr} {d c : ℕ} → Reads text p ts e d r → Reads text p ts f c s → Same e f d c r s
   same {text = text} (an_atom x) (an_atom y) = same_atom x y
   same {text = text} (a_simple x g) (a_simple {rest = s} {e = f} {d = c} y h) =
       same_suffix g (moved (λ b db vs. SuffixBy text (suffix vs) vs b db f c s) (same x y) h)
@@ -168,7 +168,7 @@ mutual
       made4 (λ c a b. node (first_span ts).start (end_of b) (E.If c a (Some b))) (λ a b c. max (max a b) c + 1) i j l
   same_operand {text = text} {ts = ts} (an_exclave x) (an_exclave y) = made (λ b us. node (first_span ts).start (end_of b) (E.Exclave b)) (λ d. d + 1) (λ r. r) (same x y)
 
-  same_list : {text : List ℕ} {k : Kind} {ts r s : List Token} {xs ys : List (ItemOf k)} {d c : ℕ} → Lists text k ts xs d r → Lists text k ts ys c s → Same xs ys d c r s
+  pub same_list : {text : List ℕ} {k : Kind} {ts r s : List Token} {xs ys : List (ItemOf k)} {d c : ℕ} → Lists text k ts xs d r → Lists text k ts ys c s → Same xs ys d c r s
   same_list {text = text} {k = k} (the_last x n) (the_last y m) = made (λ x us. x ∷ []) (λ d. d) (past k) (same_item x y)
   same_list {text = text} {k = k} (the_last x n) (one_more y m ys) = no_both (more k) _ (same_item x y).rest n m (λ h. cc)
   same_list {text = text} {k = k} (one_more x n xs) (the_last y m) = no_both (more k) _ (same_item x y).rest n m (λ h. cc)
@@ -176,7 +176,7 @@ mutual
       let i = same_item x y in
       made2 (λ x us xs r. x ∷ xs) max (λ r. r) i (same_list xs (subst (λ us. Lists text k (to_next k us) ys' c s) i.rest ys))
 
-  same_item : {text : List ℕ} {k : Kind} {ts r s : List Token} {x y : ItemOf k} {d c : ℕ} → ItemBy text k ts x d r → ItemBy text k ts y c s → Same x y d c r s
+  pub same_item : {text : List ℕ} {k : Kind} {ts r s : List Token} {x y : ItemOf k} {d c : ℕ} → ItemBy text k ts x d r → ItemBy text k ts y c s → Same x y d c r s
   same_item {text = text} (an_expression x) (an_expression y) = same x y
   same_item {text = text} {ts = ts} (a_set_field p1 p2 x) (a_set_field q1 q2 y) = made (λ e us. field (first_span ts) e) (λ d. d) (λ r. r) (same x y)
   same_item {text = text} (a_set_field p1 p2 x) (a_pun q1 q2) = absurd (q2 p2)

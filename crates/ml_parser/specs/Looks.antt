@@ -25,6 +25,8 @@ use Rattle.ml_parser.specs.declared.looks.Lead.{Lead}
 use Rattle.ml_parser.specs.declared.looks.Lead.TheVariants as O
 use Rattle.ml_parser.specs.declared.looks.Joint.{Joint}
 use Rattle.ml_parser.specs.declared.looks.Joint.TheVariants as J
+use Rattle.ml_parser.specs.declared.looks.ItemLead.{ItemLead}
+use Rattle.ml_parser.specs.declared.looks.ItemLead.TheVariants as I
 use Rattle.ml_parser.specs.declared.looks.ListKind.{ListKind}
 use Rattle.ml_parser.specs.declared.looks.ListKind.TheVariants as Q
 
@@ -275,3 +277,15 @@ begins_parameter a = false
 
 unfoldable pub binds_function : List Token → Bool
 binds_function ts = is_lower (front ts) && begins_parameter (second ts)
+
+-- items
+
+abbrev pub item_by : Front → ItemLead
+item_by F.Nothing = I.End
+item_by F.SemiSemi = I.SemiSemi
+item_by F.Let = I.Let
+item_by F.TypeWord = I.Types
+item_by a = I.Other
+
+unfoldable pub item_lead : List Token → ItemLead
+item_lead ts = item_by (front ts)

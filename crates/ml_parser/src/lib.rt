@@ -3,4 +3,4 @@
 
 mod looks;
 
-pub use looks::{AtomLead, Joint, Leaf, Lead, ListKind, Suffix};
+pub use looks::{AtomLead, ItemLead, Joint, Leaf, Lead, ListKind, Suffix};
