@@ -146,8 +146,8 @@ mutual
 abbrev pub ReadsTypeOf : Row → List Token → TyExpr → ℕ → List Token → Type 0
 ReadsTypeOf k ts t depth rest = ReadsSide k ts (read (an_arg no_words t) depth rest)
 
--- a whole type, of depth at most 1,000
-pub record ReadsType (ts : List Token) (o : Got TyExpr) : Type 0 where
+-- a type of depth at most 1,000; the row says whether `*` is taken
+pub record ReadsType (k : Row) (ts : List Token) (o : Got TyExpr) : Type 0 where
   pub depth : ℕ
-  pub reads : ReadsTypeOf Factors ts o.value depth o.rest
+  pub reads : ReadsTypeOf k ts o.value depth o.rest
   pub within : depth ≤ 1000
