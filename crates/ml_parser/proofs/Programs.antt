@@ -5,12 +5,16 @@ use Rattle.ml_tree.specs.declared.types.Decl.{Decl}
 use Rattle.ml_tree.specs.declared.program.Item.{Item}
 use Rattle.ml_parser.specs.declared.looks.ItemLead.{ItemLead}
 use Rattle.ml_parser.specs.Looks.{item_lead}
-use Rattle.ml_parser.specs.Stubs.{ReadsDecls}
+use Rattle.ml_parse_types.specs.Types.{Got, got}
+use Rattle.ml_parse_types.specs.Decls.{ReadsDecls}
+use Rattle.ml_parse_types.proofs.Unique.{same_items as same_items_of, same_decl}
 use Rattle.ml_parser.specs.Programs.{let_item, types_item, ItemsBy, no_item, between, a_let_item, a_types_item}
 use Rattle.ml_parser.proofs.Unique.{Same, same_list}
 
-one_decls : {ts r s : List Token} {ds es : List Decl} → ReadsDecls ts ds r → ReadsDecls ts es s → Same ds es 0 0 r s
-one_decls x y = ?
+one_decls : {ts r s : List Token} {ds es : List Decl} → ReadsDecls ts (got ds r) → ReadsDecls ts (got es s) → Same ds es 0 0 r s
+one_decls x y =
+    let e = same_items_of same_decl y x in
+    record { tree = ap (λ (g : Got (List Decl)). g.value) e; depth = refl; rest = ap (λ (g : Got (List Decl)). g.rest) e }
 
 pub record SameItems (is js : List Item) (d c : ℕ) : Type 0 where
   pub items : js ≡ is

@@ -15,12 +15,16 @@ use Rattle.ml_parser.specs.declared.looks.Joint.{Joint}
 use Rattle.ml_parser.specs.declared.looks.ListKind.{ListKind}
 use Rattle.ml_parser.specs.declared.looks.ListKind.TheVariants as Q
 use Rattle.ml_parser.specs.Looks.{suffix, second, operator_at, groups_left, goes_on, is_else, is_colon, is_rec, behind_bar, binds_function}
-use Rattle.ml_parser.specs.Trees.{node, start_of, end_of, end_behind, end_of_arm, arm, bind, field, name_pattern, gathered, joined}
+use Rattle.ml_parser.specs.Trees.{node, start_of, end_of, end_behind, end_of_arm, end_of_branches, arm, bind, field, gathered, joined}
 use Rattle.ml_tree.specs.declared.pattern.ConName.TheVariants.{Named}
 use Rattle.ml_tree.specs.declared.expr.ExprKind.TheVariants as E
 use Rattle.ml_cursor.specs.Places.{first_span}
-use Rattle.ml_parser.specs.Stubs.{ReadsType, ReadsPattern, ReadsParams}
-use Rattle.ml_parser.specs.Grammar.{Part, tuple, seq, operators, arms, Kind, ItemOf, HasType, ResultBy, no_result, result, Reads, AtomBy, SuffixBy, ListedBy, LevelBy, OperandBy, Lists, ItemBy, more, to_next, past, exprs, an_atom, a_simple, an_application, an_operand, a_level, a_tuple, a_sequence, a_leaf, a_text, a_paren, a_typed, a_begin, a_list, a_record, no_suffix, a_field, an_index, alone, several, no_operator, to_left, to_right, an_apply, a_constructor, a_minus, a_word, an_overwrite, an_overwrite_pair, a_let, a_borrow, a_match, a_function, a_fun, an_if, an_if_else, an_exclave, the_last, one_more, an_expression, a_set_field, a_pun, an_arm, a_guarded_arm, a_function_bind, a_pattern_bind}
+use Rattle.ml_parser.specs.Stubs.{ReadsPattern, ReadsParams}
+use Rattle.ml_parser.specs.Grammar.{Part, tuple, seq, operators, arms, Kind, ItemOf, HasType, ResultBy, no_result, result, TargetBy, function_target, pattern_target, Reads, AtomBy, SuffixBy, ListedBy, LevelBy, OperandBy, ConBy, ElseBy, GuardBy, Lists, ItemBy, more, to_next, past, an_atom, a_simple, an_operand, a_level, a_list_of, a_leaf, a_text, a_paren, a_typed, a_begin, a_list, a_record, no_suffix, a_field, an_index, alone, several, no_operator, to_left, to_right, an_apply, a_constructor, a_minus, a_word, an_overwrite, a_let, a_borrow, a_match, a_function, a_fun, an_if, an_exclave, a_block, a_cell, no_else, an_else, no_guard, a_guard, the_last, one_more, an_expression, a_set_field, a_pun, an_arm, a_bind}
+use Rattle.ml_parse_types.specs.Types.{Got}
+use Rattle.ml_parse_types.proofs.Unique.{same_type as one_type}
+use Rattle.ml_lexer.proofs.Unique.{one_literal}
+use Rattle.ml_parser.specs.declared.looks.Joint.TheVariants.{Pair}
 
 -- the second reading is the first
 pub record Same {A : Type 0} (x y : A) (d c : ℕ) (r s : List Token) : Type 0 where
@@ -58,11 +62,8 @@ made4 {A} {B} {C} {D} {x1} {y1} {x2} {y2} {x3} {y3} {d1} {c1} {d2} {c2} {d3} {c3
   rest = l.rest;
 }
 
-one_literal : {text : List ℕ} {t : Token} {bs cs : List ℕ} → IsLiteral text t bs → IsLiteral text t cs → cs ≡ bs
-one_literal a b = ?
-
-one_type : {ts r s : List Token} {t u : TyExpr} {d c : ℕ} → ReadsType ts t d r → ReadsType ts u c s → Same t u d c r s
-one_type x y = ?
+same_literal : {text : List ℕ} {t : Token} {bs cs : List ℕ} → IsLiteral text t bs → IsLiteral text t cs → cs ≡ bs
+same_literal {text} {t} {bs} {cs} a b = one_literal text t cs bs b a
 
 one_pattern : {text : List ℕ} {ts r s : List Token} {p q : Pat} {d c : ℕ} → ReadsPattern text ts p d r → ReadsPattern text ts q c s → Same p q d c r s
 one_pattern x y = ?
@@ -71,11 +72,27 @@ one_params : {text : List ℕ} {ts r s : List Token} {p q : List Param} {d c : �
 one_params x y = ?
 
 same_type : {ts r s : List Token} {t u : TyExpr} → HasType ts t r → HasType ts u s → Same t u 0 0 r s
-same_type x y = let i = one_type x.reads y.reads in record { tree = i.tree; depth = refl; rest = i.rest }
+same_type x y = let e = one_type y x in record { tree = ap (λ (g : Got TyExpr). g.value) e; depth = refl; rest = ap (λ (g : Got TyExpr). g.rest) e }
 
 same_result : {b : Bool} {ts r s : List Token} {t u : Option TyExpr} → ResultBy b ts t r → ResultBy b ts u s → Same t u 0 0 r s
 same_result no_result no_result = it _ _ _
 same_result (result x) (result y) = let i = same_type x y in record { tree = ap Some i.tree; depth = refl; rest = i.rest }
+
+-- what a bind gives its value: a pattern and parameters with their depths
+pub record SameTarget (p q : Pat) (ps qs : List Param) (d c ds cs : ℕ) (r s : List Token) : Type 0 where
+  pub pattern : q ≡ p
+  pub params : qs ≡ ps
+  pub depth : c ≡ d
+  pub depths : cs ≡ ds
+  pub rest : s ≡ r
+
+pub same_target : {text : List ℕ} {b : Bool} {ts r s : List Token} {p q : Pat} {ps qs : List Param} {d c ds cs : ℕ} → TargetBy text b ts p d ps ds r → TargetBy text b ts q c qs cs s → SameTarget p q ps qs d c ds cs r s
+same_target (function_target x) (function_target y) =
+    let i = one_params x y in
+    record { pattern = refl; params = i.tree; depth = refl; depths = i.depth; rest = i.rest }
+same_target (pattern_target x) (pattern_target y) =
+    let i = one_pattern x y in
+    record { pattern = i.tree; params = refl; depth = i.depth; depths = refl; rest = i.rest }
 
 -- one token at one place is not two
 no_clash : {us vs : List Token} {a b : Front} (P : Type 0) → vs ≡ us → front us ≡ a → front vs ≡ b → (a ≡ b → ⊥) → P
@@ -89,19 +106,15 @@ mutual
   same {text = text} (an_atom x) (an_atom y) = same_atom x y
   same {text = text} (a_simple x g) (a_simple {rest = s} {e = f} {d = c} y h) =
       same_suffix g (moved (λ b db vs. SuffixBy text (suffix vs) vs b db f c s) (same x y) h)
-  same {text = text} (an_application x g) (an_application {rest = s} {e = f} {d = c} y h) =
-      same_listed g (moved (λ b db vs. ListedBy text Q.Arguments (goes_on Q.Arguments vs) vs b db f c s) (same x y) h)
   same {text = text} (an_operand x) (an_operand y) = same_operand x y
   same {text = text} (a_level {k = k} x g) (a_level {rest = s} {e = f} {d = c} y h) =
       same_level g (moved (λ b db vs. LevelBy text k (groups_left (suc k)) (operator_at (suc k) vs) vs b db f c s) (same x y) h)
-  same {text = text} (a_tuple x g) (a_tuple {rest = s} {e = f} {d = c} y h) =
-      same_listed g (moved (λ b db vs. ListedBy text Q.Parts (goes_on Q.Parts vs) vs b db f c s) (same x y) h)
-  same {text = text} (a_sequence x g) (a_sequence {rest = s} {e = f} {d = c} y h) =
-      same_listed g (moved (λ b db vs. ListedBy text Q.Statements (goes_on Q.Statements vs) vs b db f c s) (same x y) h)
+  same {text = text} (a_list_of {q = q} x g) (a_list_of {rest = s} {e = f} {d = c} y h) =
+      same_listed g (moved (λ b db vs. ListedBy text q (goes_on q vs) vs b db f c s) (same x y) h)
 
   same_atom : {text : List ℕ} {l : AtomLead} {ts r s : List Token} {e f : Expr} {d c : ℕ} → AtomBy text l ts e d r → AtomBy text l ts f c s → Same e f d c r s
   same_atom a_leaf a_leaf = it _ _ _
-  same_atom {text = text} (a_text {t = t} x) (a_text y) = record { tree = ap (λ bs. node t.span.start t.span.end (E.Text (record { bytes = bs }))) (one_literal x y); depth = refl; rest = refl }
+  same_atom {text = text} (a_text {t = t} x) (a_text y) = record { tree = ap (λ bs. node t.span.start t.span.end (E.Text (record { bytes = bs }))) (same_literal x y); depth = refl; rest = refl }
   same_atom {text = text} {ts = ts} (a_paren x p) (a_paren y q) = made (λ e us. node (first_span ts).start (first_span us).end (E.Paren e)) (λ d. d + 1) (drop 1) (same x y)
   same_atom {text = text} (a_paren x p) (a_typed y q z w) = no_clash _ (same x y).rest p q (λ h. cc)
   same_atom {text = text} (a_typed x p z w) (a_paren y q) = no_clash _ (same x y).rest p q (λ h. cc)
@@ -130,15 +143,11 @@ mutual
 
   same_operand : {text : List ℕ} {l : Lead} {ts r s : List Token} {e f : Expr} {d c : ℕ} → OperandBy text l ts e d r → OperandBy text l ts f c s → Same e f d c r s
   same_operand {text = text} (an_apply x) (an_apply y) = same x y
-  same_operand {text = text} {ts = ts} (a_constructor x) (a_constructor y) = made (λ a us. node (first_span ts).start (end_of a) (E.Con (Named (first_span ts)) (Some a))) (λ d. d + 1) (λ r. r) (same x y)
+  same_operand (a_constructor x) (a_constructor y) = same_con x y
   same_operand {text = text} {ts = ts} (a_minus x) (a_minus y) = made (λ a us. node (first_span ts).start (end_of a) (E.Minus a)) (λ d. d + 1) (λ r. r) (same x y)
   same_operand {text = text} {ts = ts} (a_word {w = w} x) (a_word y) = made (λ a us. node (first_span ts).start (end_of a) (E.Worded w a)) (λ d. d + 1) (λ r. r) (same x y)
-  same_operand {text = text} {ts = ts} (an_overwrite p1 p2 p3 x) (an_overwrite q1 q2 q3 y) = made (λ a us. node (first_span ts).start (end_of a) (E.Overwrite (first_span (drop 1 ts)) (node (first_span (drop 3 ts)).start (end_of a) (E.Con (Named (first_span (drop 3 ts))) (Some a))))) (λ d. d + 2) (λ r. r) (same x y)
-  same_operand {text = text} (an_overwrite p1 p2 p3 x) (an_overwrite_pair q1 q2 q3 y q4 z q5) = no_clash _ refl p3 q3 (λ h. cc)
-  same_operand {text = text} (an_overwrite_pair q1 q2 q3 y q4 z q5) (an_overwrite p1 p2 p3 x) = no_clash _ refl p3 q3 (λ h. cc)
-  same_operand {text = text} {ts = ts} (an_overwrite_pair p1 p2 p3 x p4 z p5) (an_overwrite_pair {vs = vs'} {b = b'} {db = db'} q1 q2 q3 y q4 w q5) =
-      let i = same x y in
-      made2 (λ a us b vs. node (first_span ts).start (first_span vs).end (E.Overwrite (first_span (drop 1 ts)) (node (first_span (drop 3 ts)).start (first_span vs).end (E.Paren (node (start_of a) (end_of b) (E.Cons a b)))))) (λ d c. max d c + 3) (drop 1) i (same z (subst (λ us. Reads text (operators 4) (drop 1 us) b' db' vs') i.rest w))
+  same_operand {ts = ts} (an_overwrite p1 p2 x) (an_overwrite q1 q2 y) =
+      made (λ e us. node (first_span ts).start (end_of e) (E.Overwrite (first_span (drop 1 ts)) e)) (λ d. d + 1) (λ r. r) (same_con x y)
   same_operand {text = text} {ts = ts} (a_let x p z) (a_let {rest = s} {b = b'} {d = c} y q w) =
       let i = same_list x y in
       made2 (λ bs us b vs. node (first_span ts).start (end_of b) (E.Let (is_rec (second ts)) bs b)) (λ d c. max d c + 1) (λ r. r) i (same z (subst (λ us. Reads text seq (drop 1 us) b' c s) i.rest w))
@@ -150,23 +159,27 @@ mutual
   same_operand {text = text} {ts = ts} (a_fun x p z) (a_fun {rest = s} {b = b'} {d = c} y q w) =
       let i = one_params x y in
       made2 (λ ps us b vs. node (first_span ts).start (end_of b) (E.Fun ps b)) (λ d c. max d c + 1) (λ r. r) i (same z (subst (λ us. Reads text seq (drop 1 us) b' c s) i.rest w))
-  same_operand {text = text} {ts = ts} (an_if x p z n) (an_if {rest = s} {a = a'} {da = c} y q w m) =
-      let i = same x y in
-      made2 (λ c us a vs. node (first_span ts).start (end_of a) (E.If c a None)) (λ d c. max d c + 1) (λ r. r) i (same z (subst (λ us. Reads text tuple (drop 1 us) a' c s) i.rest w))
-  same_operand {text = text} (an_if x p z n) (an_if_else {vs = vs'} {a = a'} {da = c} y q w m v) =
-      let i = same x y in
-      let j = same z (subst (λ us. Reads text tuple (drop 1 us) a' c vs') i.rest w) in
-      no_both (λ us. is_else (front us)) _ j.rest n m (λ h. cc)
-  same_operand {text = text} (an_if_else x p z n u) (an_if {rest = s} {a = a'} {da = c} y q w m) =
-      let i = same x y in
-      let j = same z (subst (λ us. Reads text tuple (drop 1 us) a' c s) i.rest w) in
-      no_both (λ us. is_else (front us)) _ j.rest n m (λ h. cc)
-  same_operand {text = text} {ts = ts} (an_if_else x p z n u) (an_if_else {vs = vs'} {rest = s} {a = a'} {b = b'} {da = da'} {db = db'} y q w m v) =
+  same_operand {text = text} {ts = ts} (an_if x p z n) (an_if {vs = vs'} {rest = s} {a = a'} {o = o'} {da = da'} {d = d'} y q w m) =
       let i = same x y in
       let j = same z (subst (λ us. Reads text tuple (drop 1 us) a' da' vs') i.rest w) in
-      let l = same u (subst (λ us. Reads text tuple (drop 1 us) b' db' s) j.rest v) in
-      made4 (λ c a b. node (first_span ts).start (end_of b) (E.If c a (Some b))) (λ a b c. max (max a b) c + 1) i j l
+      let l = same_else n (subst (λ us. ElseBy text (is_else (front us)) us o' d' s) j.rest m) in
+      made4 (λ c a o. node (first_span ts).start (end_of_branches a o) (E.If c a o)) (λ a b c. max a (max b c) + 1) i j l
   same_operand {text = text} {ts = ts} (an_exclave x) (an_exclave y) = made (λ b us. node (first_span ts).start (end_of b) (E.Exclave b)) (λ d. d + 1) (λ r. r) (same x y)
+
+  pub same_con : {text : List ℕ} {f : Front} {ts r s : List Token} {x y : Expr} {d c : ℕ} → ConBy text f ts x d r → ConBy text f ts y c s → Same x y d c r s
+  same_con {ts = ts} (a_block x) (a_block y) =
+      made (λ a us. node (first_span ts).start (end_of a) (E.Con (Named (first_span ts)) (Some a))) (λ d. d + 1) (λ r. r) (same x y)
+  same_con {text = text} {ts = ts} (a_cell x p z p2) (a_cell {vs = vs'} {b = b'} {db = db'} y q w q2) =
+      let i = same x y in
+      made2 (λ a us b vs. node (first_span ts).start (first_span vs).end (E.Paren (joined Pair a b))) (λ d c. max d c + 1 + 1) (drop 1) i (same z (subst (λ us. Reads text (operators 4) (drop 1 us) b' db' vs') i.rest w))
+
+  pub same_else : {text : List ℕ} {b : Bool} {ts r s : List Token} {x y : Option Expr} {d c : ℕ} → ElseBy text b ts x d r → ElseBy text b ts y c s → Same x y d c r s
+  same_else no_else no_else = it _ _ _
+  same_else (an_else x) (an_else y) = made (λ e us. Some e) (λ d. d) (λ r. r) (same x y)
+
+  pub same_guard : {text : List ℕ} {f : Front} {ts r s : List Token} {x y : Option Expr} {d c : ℕ} → GuardBy text f ts x d r → GuardBy text f ts y c s → Same x y d c r s
+  same_guard no_guard no_guard = it _ _ _
+  same_guard (a_guard x p) (a_guard y q) = made (λ e us. Some e) (λ d. d) (drop 1) (same x y)
 
   pub same_list : {text : List ℕ} {k : Kind} {ts r s : List Token} {xs ys : List (ItemOf k)} {d c : ℕ} → Lists text k ts xs d r → Lists text k ts ys c s → Same xs ys d c r s
   same_list {text = text} {k = k} (the_last x n) (the_last y m) = made (λ x us. x ∷ []) (λ d. d) (past k) (same_item x y)
@@ -182,25 +195,17 @@ mutual
   same_item {text = text} (a_set_field p1 p2 x) (a_pun q1 q2) = absurd (q2 p2)
   same_item {text = text} (a_pun p1 p2) (a_set_field q1 q2 y) = absurd (p2 q2)
   same_item {text = text} (a_pun p1 p2) (a_pun q1 q2) = it _ _ _
-  same_item {text = text}  (an_arm x p z) (an_arm {rest = s} {b = b'} {d = c} y q w) =
+  same_item {text = text} (an_arm x g z) (an_arm {us = us'} {vs = vs'} {rest = s} {g = g'} {b = b'} {dg = dg'} {d = c} y h w) =
       let i = one_pattern x y in
-      made2 (λ p us b vs. arm p None b) max (λ r. r) i (same z (subst (λ us. Reads text seq (drop 1 us) b' c s) i.rest w))
-  same_item {text = text} (an_arm x p z) (a_guarded_arm y q w q2 v) = no_clash _ (one_pattern x y).rest p q (λ h. cc)
-  same_item {text = text} (a_guarded_arm x p z p2 u) (an_arm y q w) = no_clash _ (one_pattern x y).rest p q (λ h. cc)
-  same_item {text = text}  (a_guarded_arm x p z p2 u) (a_guarded_arm {vs = vs'} {rest = s} {g = g'} {b = b'} {dg = dg'} {d = c} y q w q2 v) =
-      let i = one_pattern x y in
-      let j = same z (subst (λ us. Reads text seq (drop 1 us) g' dg' vs') i.rest w) in
-      let l = same u (subst (λ us. Reads text seq (drop 1 us) b' c s) j.rest v) in
-      made4 (λ p g b. arm p (Some g) b) (λ a b c. max (max a b) c) i j l
-  same_item {text = text} {ts = ts} (a_function_bind n x t p z) (a_function_bind {us = us'} {vs = vs'} {rest = s} {ps = ps'} {t = t'} {b = b'} {d = c} m y u q w) =
-      let i = one_params x y in
-      let j = same_result t (subst (λ us. ResultBy (is_colon (front us)) us t' vs') i.rest u) in
+      let j = same_guard g (subst (λ us. GuardBy text (front us) us g' dg' vs') i.rest h) in
+      let l = same z (subst (λ us. Reads text seq us b' c s) j.rest w) in
+      made4 (λ p g b. arm p g b) (λ a b c. max a (max b c)) i j l
+  same_item {text = text} (a_bind {p = p} {ps = ps} {t = t} {dp = dp} {ds = ds} x u e z) (a_bind {us = us'} {vs = vs'} {rest = s} {p = p'} {ps = ps'} {t = t'} {b = b'} {dp = dp'} {ds = ds'} {d = c} y v f w) =
+      let i = same_target x y in
+      let j = same_result u (subst (λ us. ResultBy (is_colon (front us)) us t' vs') i.rest v) in
       let l = same z (subst (λ us. Reads text seq (drop 1 us) b' c s) j.rest w) in
-      made4 (λ ps t b. bind (name_pattern (first_span ts)) ps t b) (λ a b c. max (max 1 a) c) i j l
-  same_item {text = text} (a_function_bind n x t p z) (a_pattern_bind m y u q w) = no_both binds_function _ refl n m (λ h. cc)
-  same_item {text = text} (a_pattern_bind n x t p z) (a_function_bind m y u q w) = no_both binds_function _ refl n m (λ h. cc)
-  same_item {text = text}  (a_pattern_bind n x t p z) (a_pattern_bind {vs = vs'} {rest = s} {t = t'} {b = b'} {d = c} m y u q w) =
-      let i = one_pattern x y in
-      let j = same_result t (subst (λ us. ResultBy (is_colon (front us)) us t' vs') i.rest u) in
-      let l = same z (subst (λ us. Reads text seq (drop 1 us) b' c s) j.rest w) in
-      made4 (λ p t b. bind p [] t b) (λ a b c. max a c) i j l
+      record {
+        tree = ap (λ a. bind a ps' t' b') i.pattern ∙ (ap (λ a. bind p a t' b') i.params ∙ (ap (λ a. bind p ps a b') j.tree ∙ ap (λ a. bind p ps t a) l.tree));
+        depth = ap (λ a. max a (max ds' c)) i.depth ∙ (ap (λ a. max dp (max a c)) i.depths ∙ ap (λ a. max dp (max ds a)) l.depth);
+        rest = l.rest;
+      }

@@ -6,6 +6,7 @@
 use Rattle.std.specs.Prelude.{◌≡◌, ℕ, zero, suc, ◌+◌, ◌≤◌, max, Bool, true, false, List, [], ◌∷◌, drop, Option, Some, None}
 use Rattle.ml_lexer.specs.declared.token.Token.{Token}
 use Rattle.ml_lexer.specs.Tokens.{IsLiteral}
+use Rattle.ml_cursor.specs.declared.front.Front.{Front}
 use Rattle.ml_cursor.specs.declared.front.Front.TheVariants as F
 use Rattle.ml_cursor.specs.Fronts.{front}
 use Rattle.ml_cursor.specs.Places.{first_span}
@@ -27,25 +28,34 @@ use Rattle.ml_parser.specs.declared.looks.Suffix.TheVariants as S
 use Rattle.ml_parser.specs.declared.looks.Lead.{Lead}
 use Rattle.ml_parser.specs.declared.looks.Lead.TheVariants as O
 use Rattle.ml_parser.specs.declared.looks.Joint.{Joint}
+use Rattle.ml_parser.specs.declared.looks.Joint.TheVariants.{Pair}
 use Rattle.ml_parser.specs.declared.looks.ListKind.{ListKind}
 use Rattle.ml_parser.specs.declared.looks.ListKind.TheVariants as Q
 use Rattle.ml_parser.specs.Looks.{second, third, atom_lead, suffix, lead, operator_at, groups_left, loosest, goes_on, next, behind, begins_field, behind_semi, is_bar, is_and, is_rec, is_else, is_colon, behind_bar, behind_rec, binds_function}
-use Rattle.ml_parser.specs.Trees.{node, start_of, end_of, arm, bind, field, end_behind, end_of_arm, end_of_bind, width, leaf, joined, gathered, name_pattern, pun}
-use Rattle.ml_parser.specs.Stubs.{ReadsType, ReadsPattern, ReadsParams}
+use Rattle.ml_parser.specs.Trees.{node, start_of, end_of, arm, bind, field, end_behind, end_of_arm, end_of_branches, width, leaf, joined, gathered, name_pattern, pun}
+use Rattle.ml_parse_types.specs.declared.looks.Row.TheVariants.{Factors}
+use Rattle.ml_parse_types.specs.Types.{ReadsType, got}
+use Rattle.ml_parser.specs.Stubs.{ReadsPattern, ReadsParams}
 
 pub data Part : Type 0 where
   -- a number, a name, a constant, or what brackets enclose
   atom : Part
   -- an atom with the fields and indices behind it
   simple : Part
-  -- a simple part with its arguments
-  apply : Part
   -- operands joined by operators up to this level; at level 0 one operand
   operators : ℕ → Part
-  -- an expression
-  tuple : Part
-  -- expressions with `;` between them
-  seq : Part
+  -- one part, or several of a kind as one expression
+  listed : ListKind → Part
+
+-- a simple part with its arguments, an expression, and expressions with `;` between them
+abbrev pub apply : Part
+apply = listed Q.Arguments
+
+abbrev pub tuple : Part
+tuple = listed Q.Parts
+
+abbrev pub seq : Part
+seq = listed Q.Statements
 
 -- lists: of expressions, of fields of a record, of arms and of bindings
 pub data Kind : Type 0 where
@@ -84,16 +94,21 @@ past fields ts = behind_semi ts
 past arms ts = ts
 past binds ts = ts
 
--- a type as it may stand in an expression: its own depth is at most 1,000
-pub record HasType (ts : List Token) (t : TyExpr) (rest : List Token) : Type 0 where
-  pub depth : ℕ
-  pub reads : ReadsType ts t depth rest
-  pub small : depth ≤ 1000
+-- a type; its depth is at most 1,000 and no part of an expression's
+abbrev pub HasType : List Token → TyExpr → List Token → Type 0
+HasType ts t rest = ReadsType Factors ts (got t rest)
 
 -- `[: type]`
 pub data ResultBy : Bool → List Token → Option TyExpr → List Token → Type 0 where
   no_result : {ts : List Token} → ResultBy false ts None ts
   result : {ts rest : List Token} {t : TyExpr} → HasType (drop 1 ts) t rest → ResultBy true ts (Some t) rest
+
+-- what a bind gives its value: `f params`, or a pattern
+pub data TargetBy (text : List ℕ) : Bool → List Token → Pat → ℕ → List Param → ℕ → List Token → Type 0 where
+  function_target : {ts rest : List Token} {ps : List Param} {d : ℕ} →
+      ReadsParams text (drop 1 ts) ps d rest → TargetBy text true ts (name_pattern (first_span ts)) 1 ps d rest
+  pattern_target : {ts rest : List Token} {p : Pat} {d : ℕ} →
+      ReadsPattern text ts p d rest → TargetBy text false ts p d [] 0 rest
 
 mutual
   pub data Reads (text : List ℕ) : Part → List Token → Expr → ℕ → List Token → Type 0 where
@@ -101,21 +116,15 @@ mutual
         AtomBy text (atom_lead ts) ts e d rest → Reads text atom ts e d rest
     a_simple : {ts us rest : List Token} {a e : Expr} {da d : ℕ} →
         Reads text atom ts a da us → SuffixBy text (suffix us) us a da e d rest → Reads text simple ts e d rest
-    an_application : {ts us rest : List Token} {a e : Expr} {da d : ℕ} →
-        Reads text simple ts a da us → ListedBy text Q.Arguments (goes_on Q.Arguments us) us a da e d rest →
-        Reads text apply ts e d rest
     an_operand : {ts rest : List Token} {e : Expr} {d : ℕ} →
         OperandBy text (lead ts) ts e d rest → Reads text (operators zero) ts e d rest
     a_level : {k : ℕ} {ts us rest : List Token} {a e : Expr} {da d : ℕ} →
         Reads text (operators k) ts a da us →
         LevelBy text k (groups_left (suc k)) (operator_at (suc k) us) us a da e d rest →
         Reads text (operators (suc k)) ts e d rest
-    a_tuple : {ts us rest : List Token} {a e : Expr} {da d : ℕ} →
-        Reads text (operators loosest) ts a da us → ListedBy text Q.Parts (goes_on Q.Parts us) us a da e d rest →
-        Reads text tuple ts e d rest
-    a_sequence : {ts us rest : List Token} {a e : Expr} {da d : ℕ} →
-        Reads text tuple ts a da us →
-        ListedBy text Q.Statements (goes_on Q.Statements us) us a da e d rest → Reads text seq ts e d rest
+    a_list_of : {q : ListKind} {ts us rest : List Token} {a e : Expr} {da d : ℕ} →
+        Reads text (part_of q) ts a da us → ListedBy text q (goes_on q us) us a da e d rest →
+        Reads text (listed q) ts e d rest
 
   pub data AtomBy (text : List ℕ) : AtomLead → List Token → Expr → ℕ → List Token → Type 0 where
     a_leaf : {l : Leaf} {ts : List Token} → AtomBy text (A.Leaf l) ts (leaf l ts) 1 (drop (width l) ts)
@@ -174,36 +183,19 @@ mutual
   pub data OperandBy (text : List ℕ) : Lead → List Token → Expr → ℕ → List Token → Type 0 where
     an_apply : {ts rest : List Token} {e : Expr} {d : ℕ} →
         Reads text apply ts e d rest → OperandBy text O.Application ts e d rest
-    a_constructor : {ts rest : List Token} {a : Expr} {d : ℕ} →
-        Reads text simple (drop 1 ts) a d rest →
-        OperandBy text O.Constructor ts
-            (node (first_span ts).start (end_of a) (E.Con (Named (first_span ts)) (Some a))) (d + 1) rest
+    a_constructor : {ts rest : List Token} {e : Expr} {d : ℕ} →
+        ConBy text F.Upper ts e d rest → OperandBy text O.Constructor ts e d rest
     a_minus : {ts rest : List Token} {a : Expr} {d : ℕ} →
         Reads text (operators zero) (drop 1 ts) a d rest →
         OperandBy text O.Minus ts (node (first_span ts).start (end_of a) (E.Minus a)) (d + 1) rest
     a_word : {w : Words} {ts rest : List Token} {a : Expr} {d : ℕ} →
         Reads text (operators zero) (drop 1 ts) a d rest →
         OperandBy text (O.Word w) ts (node (first_span ts).start (end_of a) (E.Worded w a)) (d + 1) rest
-    -- `overwrite_ x with C e`
-    an_overwrite : {ts rest : List Token} {a : Expr} {d : ℕ} →
-        second ts ≡ F.Lower → third ts ≡ F.With → front (drop 3 ts) ≡ F.Upper →
-        Reads text simple (drop 4 ts) a d rest →
+    -- `overwrite_ x with con`
+    an_overwrite : {ts rest : List Token} {e : Expr} {d : ℕ} →
+        second ts ≡ F.Lower → third ts ≡ F.With → ConBy text (front (drop 3 ts)) (drop 3 ts) e d rest →
         OperandBy text O.Overwrite ts
-            (node (first_span ts).start (end_of a)
-                (E.Overwrite (first_span (drop 1 ts))
-                    (node (first_span (drop 3 ts)).start (end_of a) (E.Con (Named (first_span (drop 3 ts))) (Some a)))))
-            (d + 2) rest
-    -- `overwrite_ x with (a :: b)`
-    an_overwrite_pair : {ts us vs : List Token} {a b : Expr} {da db : ℕ} →
-        second ts ≡ F.Lower → third ts ≡ F.With → front (drop 3 ts) ≡ F.OpenParen →
-        Reads text (operators 3) (drop 4 ts) a da us → front us ≡ F.ColonColon →
-        Reads text (operators 4) (drop 1 us) b db vs → front vs ≡ F.CloseParen →
-        OperandBy text O.Overwrite ts
-            (node (first_span ts).start (first_span vs).end
-                (E.Overwrite (first_span (drop 1 ts))
-                    (node (first_span (drop 3 ts)).start (first_span vs).end
-                        (E.Paren (node (start_of a) (end_of b) (E.Cons a b))))))
-            (max da db + 3) (drop 1 vs)
+            (node (first_span ts).start (end_of e) (E.Overwrite (first_span (drop 1 ts)) e)) (d + 1) rest
     a_let : {ts us rest : List Token} {bs : List Bind} {b : Expr} {dbs d : ℕ} →
         Lists text binds (behind_rec (drop 1 ts)) bs dbs us → front us ≡ F.In →
         Reads text seq (drop 1 us) b d rest →
@@ -229,19 +221,37 @@ mutual
         ReadsParams text (drop 1 ts) ps dp us → front us ≡ F.Arrow →
         Reads text seq (drop 1 us) b d rest →
         OperandBy text O.Fun ts (node (first_span ts).start (end_of b) (E.Fun ps b)) (max dp d + 1) rest
-    an_if : {ts us rest : List Token} {c a : Expr} {dc da : ℕ} →
-        Reads text seq (drop 1 ts) c dc us → front us ≡ F.Then →
-        Reads text tuple (drop 1 us) a da rest → is_else (front rest) ≡ false →
-        OperandBy text O.If ts (node (first_span ts).start (end_of a) (E.If c a None)) (max dc da + 1) rest
-    an_if_else : {ts us vs rest : List Token} {c a b : Expr} {dc da db : ℕ} →
-        Reads text seq (drop 1 ts) c dc us → front us ≡ F.Then →
-        Reads text tuple (drop 1 us) a da vs → is_else (front vs) ≡ true →
-        Reads text tuple (drop 1 vs) b db rest →
+    an_if : {ts us vs rest : List Token} {c a : Expr} {o : Option Expr} {dc da d : ℕ} →
+        Reads text seq (drop 1 ts) c dc us → front us ≡ F.Then → Reads text tuple (drop 1 us) a da vs →
+        ElseBy text (is_else (front vs)) vs o d rest →
         OperandBy text O.If ts
-            (node (first_span ts).start (end_of b) (E.If c a (Some b))) (max (max dc da) db + 1) rest
+            (node (first_span ts).start (end_of_branches a o) (E.If c a o)) (max dc (max da d) + 1) rest
     an_exclave : {ts rest : List Token} {b : Expr} {d : ℕ} →
         Reads text seq (drop 1 ts) b d rest →
         OperandBy text O.Exclave ts (node (first_span ts).start (end_of b) (E.Exclave b)) (d + 1) rest
+
+  -- a constructor with its argument, by its first token: `C e`, or `(a :: b)`
+  pub data ConBy (text : List ℕ) : Front → List Token → Expr → ℕ → List Token → Type 0 where
+    a_block : {ts rest : List Token} {a : Expr} {d : ℕ} →
+        Reads text simple (drop 1 ts) a d rest →
+        ConBy text F.Upper ts (node (first_span ts).start (end_of a) (E.Con (Named (first_span ts)) (Some a))) (d + 1) rest
+    a_cell : {ts us vs : List Token} {a b : Expr} {da db : ℕ} →
+        Reads text (operators 3) (drop 1 ts) a da us → front us ≡ F.ColonColon →
+        Reads text (operators 4) (drop 1 us) b db vs → front vs ≡ F.CloseParen →
+        ConBy text F.OpenParen ts
+            (node (first_span ts).start (first_span vs).end (E.Paren (joined Pair a b))) (max da db + 1 + 1) (drop 1 vs)
+
+  -- `[else e]`
+  pub data ElseBy (text : List ℕ) : Bool → List Token → Option Expr → ℕ → List Token → Type 0 where
+    no_else : {ts : List Token} → ElseBy text false ts None 0 ts
+    an_else : {ts rest : List Token} {e : Expr} {d : ℕ} →
+        Reads text tuple (drop 1 ts) e d rest → ElseBy text true ts (Some e) d rest
+
+  -- `[when e] ->`
+  pub data GuardBy (text : List ℕ) : Front → List Token → Option Expr → ℕ → List Token → Type 0 where
+    no_guard : {ts : List Token} → GuardBy text F.Arrow ts None 0 (drop 1 ts)
+    a_guard : {ts us : List Token} {e : Expr} {d : ℕ} →
+        Reads text seq (drop 1 ts) e d us → front us ≡ F.Arrow → GuardBy text F.When ts (Some e) d (drop 1 us)
 
   -- a list of one or more; its depth is the greatest of theirs
   pub data Lists (text : List ℕ) : (k : Kind) → List Token → List (ItemOf k) → ℕ → List Token → Type 0 where
@@ -262,22 +272,12 @@ mutual
     -- `f`
     a_pun : {ts : List Token} →
         front ts ≡ F.Lower → (second ts ≡ F.Equal → ⊥) → ItemBy text fields ts (pun (first_span ts)) 1 (drop 1 ts)
-    -- `pattern -> e`
-    an_arm : {ts us rest : List Token} {p : Pat} {b : Expr} {dp d : ℕ} →
-        ReadsPattern text ts p dp us → front us ≡ F.Arrow → Reads text seq (drop 1 us) b d rest →
-        ItemBy text arms ts (arm p None b) (max dp d) rest
-    -- `pattern when g -> e`
-    a_guarded_arm : {ts us vs rest : List Token} {p : Pat} {g b : Expr} {dp dg d : ℕ} →
-        ReadsPattern text ts p dp us → front us ≡ F.When → Reads text seq (drop 1 us) g dg vs →
-        front vs ≡ F.Arrow → Reads text seq (drop 1 vs) b d rest →
-        ItemBy text arms ts (arm p (Some g) b) (max (max dp dg) d) rest
-    -- `f params [: type] = e`
-    a_function_bind : {ts us vs rest : List Token} {ps : List Param} {t : Option TyExpr} {b : Expr} {dp d : ℕ} →
-        binds_function ts ≡ true → ReadsParams text (drop 1 ts) ps dp us →
-        ResultBy (is_colon (front us)) us t vs → front vs ≡ F.Equal → Reads text seq (drop 1 vs) b d rest →
-        ItemBy text binds ts (bind (name_pattern (first_span ts)) ps t b) (max (max 1 dp) d) rest
-    -- `pattern [: type] = e`
-    a_pattern_bind : {ts us vs rest : List Token} {p : Pat} {t : Option TyExpr} {b : Expr} {dp d : ℕ} →
-        binds_function ts ≡ false → ReadsPattern text ts p dp us →
-        ResultBy (is_colon (front us)) us t vs → front vs ≡ F.Equal → Reads text seq (drop 1 vs) b d rest →
-        ItemBy text binds ts (bind p [] t b) (max dp d) rest
+    -- `pattern [when g] -> e`
+    an_arm : {ts us vs rest : List Token} {p : Pat} {g : Option Expr} {b : Expr} {dp dg d : ℕ} →
+        ReadsPattern text ts p dp us → GuardBy text (front us) us g dg vs → Reads text seq vs b d rest →
+        ItemBy text arms ts (arm p g b) (max dp (max dg d)) rest
+    -- `target [: type] = e`
+    a_bind : {ts us vs rest : List Token} {p : Pat} {ps : List Param} {t : Option TyExpr} {b : Expr} {dp ds d : ℕ} →
+        TargetBy text (binds_function ts) ts p dp ps ds us → ResultBy (is_colon (front us)) us t vs →
+        front vs ≡ F.Equal → Reads text seq (drop 1 vs) b d rest →
+        ItemBy text binds ts (bind p ps t b) (max dp (max ds d)) rest

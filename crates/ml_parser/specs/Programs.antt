@@ -13,7 +13,8 @@ use Rattle.ml_parser.specs.declared.looks.ItemLead.{ItemLead}
 use Rattle.ml_parser.specs.declared.looks.ItemLead.TheVariants as I
 use Rattle.ml_parser.specs.Looks.{second, item_lead, behind_rec, is_rec}
 use Rattle.ml_parser.specs.Trees.{end_behind, end_of_bind}
-use Rattle.ml_parser.specs.Stubs.{ReadsDecls}
+use Rattle.ml_parse_types.specs.Types.{got}
+use Rattle.ml_parse_types.specs.Decls.{ReadsDecls}
 use Rattle.ml_parser.specs.Grammar.{Lists, binds}
 
 abbrev pub let_item : List Token → List Bind → Item
@@ -33,7 +34,7 @@ pub data ItemsBy (text : List ℕ) : ItemLead → List Token → List Item → �
       Lists text binds (behind_rec (drop 1 ts)) bs db us → ItemsBy text (item_lead us) us is d →
       ItemsBy text I.Let ts (let_item ts bs ∷ is) (max db d)
   a_types_item : {ts us : List Token} {ds : List Decl} {is : List Item} {d : ℕ} →
-      ReadsDecls (drop 1 ts) ds us → ItemsBy text (item_lead us) us is d →
+      ReadsDecls (drop 1 ts) (got ds us) → ItemsBy text (item_lead us) us is d →
       ItemsBy text I.Types ts (types_item ts ds us ∷ is) d
 
 abbrev pub Items : List ℕ → List Token → List Item → ℕ → Type 0

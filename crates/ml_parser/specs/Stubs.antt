@@ -3,13 +3,7 @@ use Rattle.std.specs.Prelude.{ℕ, List}
 use Rattle.ml_lexer.specs.declared.token.Token.{Token}
 use Rattle.ml_tree.specs.declared.pattern.Pat.{Pat}
 use Rattle.ml_tree.specs.declared.pattern.Param.{Param}
-use Rattle.ml_tree.specs.declared.types.TyExpr.{TyExpr}
-use Rattle.ml_tree.specs.declared.types.Decl.{Decl}
-
-pub data ReadsType : List Token → TyExpr → ℕ → List Token → Type 0 where
 
 pub data ReadsPattern (text : List ℕ) : List Token → Pat → ℕ → List Token → Type 0 where
 
 pub data ReadsParams (text : List ℕ) : List Token → List Param → ℕ → List Token → Type 0 where
-
-pub data ReadsDecls : List Token → List Decl → List Token → Type 0 where

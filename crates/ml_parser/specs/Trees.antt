@@ -51,6 +51,11 @@ end_of_arm a = end_of (out-Arm a).body
 abbrev pub end_of_bind : Bind → ℕ
 end_of_bind b = end_of (out-Bind b).body
 
+-- where an `if` ends
+abbrev pub end_of_branches : Expr → Option Expr → ℕ
+end_of_branches a None = end_of a
+end_of_branches a (Some b) = end_of b
+
 -- how many tokens a leaf takes
 abbrev pub width : Leaf → ℕ
 width L.Path = 3
@@ -85,7 +90,7 @@ abbrev pub gathered_kind : ListKind → Expr → List Expr → ExprKind
 gathered_kind Q.Arguments a es = E.Apply a es
 gathered_kind Q.Parts a es = E.Tuple (a ∷ es)
 gathered_kind Q.Statements a es = E.Seq (a ∷ es)
-gathered_kind Q.Elements a es = E.List (a ∷ es)
+gathered_kind Q.Elements a es = E.Seq (a ∷ es)
 
 -- a first expression and those behind it
 abbrev pub gathered : ListKind → Expr → List Expr → Expr
