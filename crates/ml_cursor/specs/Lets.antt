@@ -1,33 +1,28 @@
 -- The `let`s that an `in` closes, found by matching `let`s and brackets as parentheses are matched.
-use Rattle.std.specs.Prelude.{ℕ, Bool, true, false, ◌==◌, ◌||◌, List, [], ◌∷◌, if◌then◌else◌}
+use Rattle.std.specs.Prelude.{Bool, true, false, List, [], ◌∷◌}
 use Rattle.ml_lexer.specs.declared.token.Token.{Token}
-use Rattle.ml_lexer.specs.declared.token.TokenKind.{TokenKind}
-use Rattle.ml_lexer.specs.declared.token.TokenKind.TheVariants.{Word, Sign}
+use Rattle.ml_cursor.specs.declared.front.Front.{Front}
+use Rattle.ml_cursor.specs.declared.front.Front.TheVariants.{Let, In, Begin, End, OpenParen, CloseParen, OpenBracket, CloseBracket, OpenBrace, CloseBrace, TypeWord, SemiSemi}
+use Rattle.ml_cursor.specs.Fronts.{of_kind}
 use Rattle.ml_cursor.specs.declared.lets.Role.{Role}
 use Rattle.ml_cursor.specs.declared.lets.Role.TheVariants.{OpensLet, OpensBracket, ClosesLet, ClosesBracket, EndsAll, Passes}
 use Rattle.ml_cursor.specs.declared.lets.Closing.{Closing}
 use Rattle.ml_cursor.specs.declared.lets.Closing.TheVariants.{OfLet, OfBracket}
 
--- `let` is 15, `in` 13, `begin` 3, `end` 6 and `type` 31
-abbrev pub word_role : ℕ → Role
-word_role n =
-    if n == 15 then OpensLet
-    else (if n == 13 then ClosesLet
-    else (if n == 3 then OpensBracket
-    else (if n == 6 then ClosesBracket
-    else (if n == 31 then EndsAll else Passes))))
-
--- `(` is 0, `)` 1, `[` 2, `]` 3, `{` 4, `}` 5 and `;;` 8
-abbrev pub sign_role : ℕ → Role
-sign_role n =
-    if (n == 0) || (n == 2) || (n == 4) then OpensBracket
-    else (if (n == 1) || (n == 3) || (n == 5) then ClosesBracket
-    else (if n == 8 then EndsAll else Passes))
-
 -- what a token does to the `let`s and brackets that are open
-unfoldable pub role_of : TokenKind → Role
-role_of (Word n) = word_role n
-role_of (Sign n) = sign_role n
+unfoldable pub role_of : Front → Role
+role_of Let = OpensLet
+role_of In = ClosesLet
+role_of OpenParen = OpensBracket
+role_of OpenBracket = OpensBracket
+role_of OpenBrace = OpensBracket
+role_of Begin = OpensBracket
+role_of CloseParen = ClosesBracket
+role_of CloseBracket = ClosesBracket
+role_of CloseBrace = ClosesBracket
+role_of End = ClosesBracket
+role_of TypeWord = EndsAll
+role_of SemiSemi = EndsAll
 role_of _ = Passes
 
 -- behind the first closing bracket; nothing where there is none
@@ -55,7 +50,7 @@ taken Passes cs = cs
 -- a `type` or a `;;`
 unfoldable pub closings : List Token → List Closing
 closings [] = []
-closings (t ∷ ts) = taken (role_of t.kind) (closings ts)
+closings (t ∷ ts) = taken (role_of (of_kind t.kind)) (closings ts)
 
 abbrev pub closed_by : Role → List Closing → Bool
 closed_by OpensLet (OfLet ∷ cs) = true
@@ -64,7 +59,7 @@ closed_by _ _ = false
 -- whether the list begins with a `let` that an `in` closes
 unfoldable pub begins_closed_let : List Token → Bool
 begins_closed_let [] = false
-begins_closed_let (t ∷ ts) = closed_by (role_of t.kind) (closings ts)
+begins_closed_let (t ∷ ts) = closed_by (role_of (of_kind t.kind)) (closings ts)
 
 -- the same for each place of a list of tokens
 unfoldable pub closed_lets : List Token → List Bool

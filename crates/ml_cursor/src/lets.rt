@@ -1,8 +1,9 @@
 ghost use Rattle.std.specs.Prelude.{◌≡◌, IfOk, OnOk, reverse, drop};
-ghost use Rattle.ml_cursor.specs.Lets.{word_role, sign_role, role_of, behind_bracket, behind_let, taken, closed_by, closings, begins_closed_let, closed_lets};
+ghost use Rattle.ml_cursor.specs.Lets.{role_of, behind_bracket, behind_let, taken, closed_by, closings, begins_closed_let, closed_lets};
 ghost use Rattle.ml_cursor.specs.declared.lets.Role.TheVariants.{OpensLet};
 
-use ml_lexer::{Token, TokenKind, sign, word};
+use crate::front::{Front, of_kind};
+use ml_lexer::Token;
 use oxml_base::{Items, NoMemory};
 use sqlite_items::at;
 use std::alloc::Global;
@@ -26,37 +27,20 @@ enum Closing {
     OfBracket,
 }
 
-fn word_role(n: u8) -> Role
-    ensures { result ≡ word_role n }
-{
-    match n {
-        word::LET => Role::OpensLet,
-        word::IN => Role::ClosesLet,
-        word::BEGIN => Role::OpensBracket,
-        word::END => Role::ClosesBracket,
-        word::TYPE => Role::EndsAll,
-        _ => Role::Passes,
-    }
-}
-
-fn sign_role(n: u8) -> Role
-    ensures { result ≡ sign_role n }
-{
-    match n {
-        sign::OPEN_PAREN | sign::OPEN_BRACKET | sign::OPEN_BRACE => Role::OpensBracket,
-        sign::CLOSE_PAREN | sign::CLOSE_BRACKET | sign::CLOSE_BRACE => Role::ClosesBracket,
-        sign::SEMI_SEMI => Role::EndsAll,
-        _ => Role::Passes,
-    }
-}
-
 #[tactic(auto, unfolding(crate::specs::Lets::role_of))]
-fn role_of(kind: TokenKind) -> Role
-    ensures { result ≡ role_of kind }
+fn role_of(front: Front) -> Role
+    ensures { result ≡ role_of front }
 {
-    match kind {
-        TokenKind::Word(n) => word_role(n),
-        TokenKind::Sign(n) => sign_role(n),
+    match front {
+        Front::Let => Role::OpensLet,
+        Front::In => Role::ClosesLet,
+        Front::OpenParen | Front::OpenBracket | Front::OpenBrace | Front::Begin => {
+            Role::OpensBracket
+        }
+        Front::CloseParen | Front::CloseBracket | Front::CloseBrace | Front::End => {
+            Role::ClosesBracket
+        }
+        Front::TypeWord | Front::SemiSemi => Role::EndsAll,
         _ => Role::Passes,
     }
 }
@@ -127,7 +111,7 @@ pub fn closed_lets(alloc: Global, tokens: &[Token]) -> Result<Items<bool>, NoMem
     let mut at = tokens.len();
     while at > 0 {
         at -= 1;
-        table[at] = step_back(&mut closings, role_of(tokens[at].kind))?;
+        table[at] = step_back(&mut closings, role_of(of_kind(tokens[at].kind)))?;
     }
     Ok(Items::from_vec(table))
 }

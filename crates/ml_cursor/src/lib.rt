@@ -6,6 +6,8 @@ mod cursor;
 mod error;
 mod front;
 mod lets;
+#[cfg(test)]
+mod tests;
 
 pub use cursor::{
     accept, char_at, extent, front_at, int_at, pass, refusal_at, span_at, stands, take,

@@ -88,3 +88,17 @@ pub enum ListKind {
     /// The elements of a list literal, with `;` between them.
     Elements,
 }
+
+/// What stands between the items of a program.
+#[derive(Clone, Copy, Debug, PartialEq, Eq)]
+pub enum ItemLead {
+    /// The tokens have ended.
+    End,
+    /// `;;`
+    SemiSemi,
+    Let,
+    /// `type`
+    Types,
+    /// No item begins here.
+    Other,
+}

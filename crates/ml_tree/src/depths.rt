@@ -31,8 +31,9 @@ fn of_pattern_kind(kind: &PatKind) -> u32
             Some(inner) => of_pattern(inner.get()),
             None => 0,
         },
-        PatKind::Cons(one, other) | PatKind::Or(one, other) => of_pattern(one.get())
-            .max(of_pattern(other.get())),
+        PatKind::Cons(one, other) | PatKind::Or(one, other) => of_pattern(one.get()).max(of_pattern(
+            other.get(),
+        )),
         PatKind::Tuple(parts) | PatKind::List(parts) => of_patterns(parts.as_slice()),
         PatKind::Fields { list, rest: _ } => of_field_patterns(list.as_slice()),
         PatKind::Named(inner, _) | PatKind::Typed(inner, _) | PatKind::Paren(inner) => of_pattern(
@@ -112,10 +113,13 @@ fn of_bind(bind: &Bind) -> u32
     requires { bind_depth bind.now < 2 ^ 32 }
     ensures { result ≡ bind_depth bind.now }
 {
-    of_pattern(&bind.pat).max(of_params(bind.params.as_slice())).max(depth(&bind.body))
+    of_pattern(&bind.pat)
+        .max(of_params(bind.params.as_slice()))
+        .max(depth(&bind.body))
 }
 
 #[cycle(expressions_depth)]
+#[tactic(auto, using(crate::proofs::Forms::apply_depth, crate::proofs::Forms::let_depth, crate::proofs::Forms::match_depth))]
 fn of_kind(kind: &ExprKind) -> u32
     requires { kind_depth kind.now < 2 ^ 32 }
     ensures { result ≡ kind_depth kind.now }
@@ -132,7 +136,9 @@ fn of_kind(kind: &ExprKind) -> u32
             parts.as_slice(),
         ),
         ExprKind::Fields(list) => of_fields(list.as_slice()),
-        ExprKind::Apply(function, args) => depth(function.get()).max(of_expressions(args.as_slice())),
+        ExprKind::Apply(function, args) => depth(function.get()).max(of_expressions(
+            args.as_slice(),
+        )),
         ExprKind::If(condition, branch, other) => {
             let both = depth(condition.get()).max(depth(branch.get()));
             match other {

@@ -1,5 +1,6 @@
-use Rattle.std.proofs.Common.{rules, ◌≡◌, ◌-◌, ◌+◌, ◌<◌, length, arith}
+use Rattle.std.proofs.Common.{rules, ◌≡◌, ◌∙◌, ap, ◌-◌, ◌+◌, ◌<◌, length, arith}
 use Rattle.std.proofs.Math.ListN.{length-set}
+use Rattle.ml_cursor.specs.Lets.{role_of}
 use Rattle.ml_cursor.proofs.Walk.{closings_end, table_end, left_step, table_step}
 use Rattle.ml_cursor.proofs.lets.closed_lets.Goals as goal
 
@@ -10,7 +11,7 @@ loop-at-init c =
 
 pub loop-at-preserved : goal.loop-at-preserved
 loop-at-preserved c =
-    let r = c.role_of.ensures in
+    let r = c.role_of.ensures ∙ ap role_of c.of_kind.ensures in
     let w = c.in_ok-table-2.ensures in
     let i = c.loop-at.invariant in
     let ts = c.args.tokens.now in

@@ -1,5 +1,5 @@
 use Rattle.std.proofs.Common.{◌≡◌, max, map, drop}
-use Rattle.ml_tree.specs.Depth.{greatest, pattern_depth, field_pattern_depth, param_depth, expr_depth, field_depth, arm_depth, bind_depth}
+use Rattle.ml_tree.specs.Depth.{greatest, pattern_depth, field_pattern_depth}
 use Rattle.ml_tree.proofs.depths.+patterns_depth.Given as goal
 
 abbrev pub invariant-of_patterns-loop-one : goal.invariant-of_patterns-loop-one

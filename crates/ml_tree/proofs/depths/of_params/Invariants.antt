@@ -1,5 +1,5 @@
 use Rattle.std.proofs.Common.{◌≡◌, max, map, drop}
-use Rattle.ml_tree.specs.Depth.{greatest, pattern_depth, field_pattern_depth, param_depth, expr_depth, field_depth, arm_depth, bind_depth}
+use Rattle.ml_tree.specs.Depth.{greatest, param_depth}
 use Rattle.ml_tree.proofs.depths.of_params.Given as goal
 
 abbrev pub invariant-loop-one : goal.invariant-loop-one

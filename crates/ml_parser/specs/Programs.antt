@@ -1,0 +1,41 @@
+-- Items and programs.
+use Rattle.std.specs.Prelude.{◌≡◌, ℕ, ◌≤◌, max, Bool, List, [], ◌∷◌, drop}
+use Rattle.oxml_base.specs.declared.span.Span.{Span}
+use Rattle.ml_lexer.specs.declared.token.Token.{Token}
+use Rattle.ml_cursor.specs.Fronts.{front}
+use Rattle.ml_cursor.specs.Places.{span, first_span, extent}
+use Rattle.ml_tree.specs.declared.expr.Bind.{Bind}
+use Rattle.ml_tree.specs.declared.types.Decl.{Decl}
+use Rattle.ml_tree.specs.declared.program.Item.{Item}
+use Rattle.ml_tree.specs.declared.program.ItemKind.{ItemKind}
+use Rattle.ml_tree.specs.declared.program.ItemKind.TheVariants as K
+use Rattle.ml_parser.specs.declared.looks.ItemLead.{ItemLead}
+use Rattle.ml_parser.specs.declared.looks.ItemLead.TheVariants as I
+use Rattle.ml_parser.specs.Looks.{second, item_lead, behind_rec, is_rec}
+use Rattle.ml_parser.specs.Trees.{end_behind, end_of_bind}
+use Rattle.ml_parse_types.specs.Types.{got}
+use Rattle.ml_parse_types.specs.Decls.{ReadsDecls}
+use Rattle.ml_parser.specs.Grammar.{Lists, binds}
+
+abbrev pub let_item : List Token → List Bind → Item
+let_item ts bs =
+    record { id = 0; span = span (first_span ts).start (end_behind end_of_bind 0 bs); kind = K.Let (is_rec (second ts)) bs }
+
+abbrev pub types_item : List Token → List Decl → List Token → Item
+types_item ts ds rest = record { id = 0; span = extent ts rest; kind = K.Types ds }
+
+-- the items of all tokens, by what stands first; their depth is the greatest of theirs, to which a
+-- declaration of types adds nothing
+pub data ItemsBy (text : List ℕ) : ItemLead → List Token → List Item → ℕ → Type 0 where
+  no_item : {ts : List Token} → ItemsBy text I.End ts [] 0
+  between : {ts : List Token} {is : List Item} {d : ℕ} →
+      ItemsBy text (item_lead (drop 1 ts)) (drop 1 ts) is d → ItemsBy text I.SemiSemi ts is d
+  a_let_item : {ts us : List Token} {bs : List Bind} {is : List Item} {db d : ℕ} →
+      Lists text binds (behind_rec (drop 1 ts)) bs db us → ItemsBy text (item_lead us) us is d →
+      ItemsBy text I.Let ts (let_item ts bs ∷ is) (max db d)
+  a_types_item : {ts us : List Token} {ds : List Decl} {is : List Item} {d : ℕ} →
+      ReadsDecls (drop 1 ts) (got ds us) → ItemsBy text (item_lead us) us is d →
+      ItemsBy text I.Types ts (types_item ts ds us ∷ is) d
+
+abbrev pub Items : List ℕ → List Token → List Item → ℕ → Type 0
+Items text ts is d = ItemsBy text (item_lead ts) ts is d
