@@ -2,4 +2,10 @@
 #![tactic(auto)]
 
 mod looks;
+mod make;
+mod types;
 mod words;
+
+pub use looks::Row;
+pub use types::{MAX_DEPTH, read_type};
+pub use words::{ModeWord, mode_word, no_words, read_words};
