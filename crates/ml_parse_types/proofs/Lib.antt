@@ -1,1 +1,2 @@
+pub mod ModeWords
 mod Unique

@@ -112,6 +112,14 @@ fn with_some(words: Words, word: ModeWord) -> WordStep
     }
 }
 
+/// What the token at a place is behind the words so far.
+fn word_step(tokens: &[Token], at: usize, words: Words) -> WordStep
+    ensures { result ≡ with_word words (mode_word (front (drop at tokens.now))) }
+{
+    with_word(words, mode_word(front_at(tokens, at)))
+}
+
+#[tactic(auto, using(crate::proofs::ModeWords::along_none, crate::proofs::ModeWords::along_more, crate::proofs::ModeWords::along_done, crate::proofs::ModeWords::along_twice, crate::proofs::ModeWords::word_shorter))]
 /// All mode words at a place. A second word of one axis is refused.
 pub fn read_words(tokens: &[Token], at: &mut usize) -> Result<Words, ParseErr>
     ensures ok { IfOk result (λ w. ReadsWords (drop at.old tokens.now) (got w (drop at.new tokens.now))) }
@@ -119,7 +127,7 @@ pub fn read_words(tokens: &[Token], at: &mut usize) -> Result<Words, ParseErr>
 {
     let mut words = no_words();
     'words: loop {
-        match with_word(words, mode_word(front_at(tokens, *at))) {
+        match word_step(tokens, *at, words) {
             WordStep::Done => return Ok(words),
             WordStep::Twice => return Err(ParseErr::Refused(refusal_at(tokens, *at))),
             WordStep::Adds(more) => {
