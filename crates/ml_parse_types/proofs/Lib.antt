@@ -1,2 +1,3 @@
 pub mod ModeWords
-mod Unique
+pub mod Shorter
+pub mod Unique
