@@ -1,1 +1,3 @@
+pub mod ModeWords
+pub mod Shorter
 pub mod Unique

@@ -21,7 +21,7 @@ use Rattle.ml_cursor.specs.Places.{first_span}
 use Rattle.ml_parse_types.specs.declared.looks.VarsStart.{VarsStart}
 use Rattle.ml_parse_types.specs.declared.looks.BodyStart.{BodyStart}
 use Rattle.ml_parse_types.specs.Looks.{body_start}
-use Rattle.ml_parse_types.specs.Decls.{ReadsItems, items, ItemsBy, last_item, next_item, ReadsVar, a_var, VarsBy, no_vars, one_var, some_vars, ReadsArg, con_arg, ArgsBy, no_args, some_args, a_con, ReadsCon, con, a_field, ReadsField, field, BodyBy, barred, variant, fields, alias, a_decl, ReadsDecl, decl}
+use Rattle.ml_parse_types.specs.Decls.{ReadsItems, items, ItemsBy, last_item, next_item, ReadsVar, a_var, VarsBy, no_vars, one_var, some_vars, ReadsArg, con_arg, ArgsBy, no_args, some_args, a_con, ReadsCon, con, a_field, ReadsField, field, BodyBy, barred, variant, fields, alias, a_decl, ReadsDecl, decl, decl_behind}
 use Rattle.ml_parse_types.specs.Looks.{type_start, is_name, is_arrow, behind_part, no_words}
 use Rattle.ml_parse_types.specs.Types.{Got, got, Read, read, ReadsType, WordsBy, words_end, word_more, ReadsWords, an_arg, an_arrow, product, group, NamesBy, no_name, one_name, AtomBy, a_variable, a_name, a_group, ReadsOperand, operand, ReadsPart, alone, factor, argument, ReadsList, row, ListBy, the_last, one_more, ReadsSide, side, SideBy, no_arrow, to_arrow}
 
@@ -131,3 +131,6 @@ same_decl ts o p (decl {v = v} {b = a} x e f s) (decl {v = w} {b = b} y g h r) =
     let q = same_vars x y in
     let i = same_body (subst (λ (x : Got (List Span)). BodyBy (body_start (front (drop 1 (drop 1 x.rest)))) (drop 1 (drop 1 x.rest)) a) q s) r in
     ap (λ (x : Got (List Span)). got (a_decl (first_span x.rest) x.value a.value) a.rest) q ∙ ap (λ (x : Got DeclBody). got (a_decl (first_span w.rest) w.value x.value) x.rest) i
+
+pub same_decls : IsOneThing (ReadsItems ReadsDecl decl_behind)
+same_decls ts o p a b = same_items same_decl a b

@@ -45,8 +45,11 @@ pub data WordsBy : WordStep → List Token → Words → Got Words → Type 0 wh
       WordsBy (with_word v (mode_word (front (drop 1 ts)))) (drop 1 ts) v o →
       WordsBy (Adds v) ts w o
 
+abbrev pub WordsFrom : List Token → Words → Got Words → Type 0
+WordsFrom ts w o = WordsBy (with_word w (mode_word (front ts))) ts w o
+
 abbrev pub ReadsWords : List Token → Got Words → Type 0
-ReadsWords ts o = WordsBy (with_word no_words (mode_word (front ts))) ts no_words o
+ReadsWords ts o = WordsFrom ts no_words o
 
 -- the numbers of type expressions are given later
 abbrev pub a_type : Span → TyKind → TyExpr

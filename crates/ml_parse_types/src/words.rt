@@ -2,6 +2,8 @@ ghost use Rattle.std.specs.Prelude.{◌≡◌, drop, IfOk, IfErr};
 ghost use Rattle.ml_cursor.specs.Fronts.{front};
 ghost use Rattle.ml_cursor.specs.Says.{Says};
 ghost use Rattle.ml_parse_types.specs.Looks.{mode_word, no_words, with_loc, with_uni, with_aff, with_word};
+ghost use Rattle.ml_parse_types.specs.Types.{got, ReadsWords};
+ghost use Rattle.ml_parse_types.specs.Readers.{IsNone};
 
 use ml_cursor::{Front, ParseErr, front_at, pass, refusal_at};
 use ml_lexer::Token;
@@ -107,5 +109,31 @@ fn with_some(words: Words, word: ModeWord) -> WordStep
         ModeWord::OfLoc(loc) => with_loc(loc, words),
         ModeWord::OfUni(uni) => with_uni(uni, words),
         ModeWord::OfAff(aff) => with_aff(aff, words),
+    }
+}
+
+/// What the token at a place is behind the words so far.
+fn word_step(tokens: &[Token], at: usize, words: Words) -> WordStep
+    ensures { result ≡ with_word words (mode_word (front (drop at tokens.now))) }
+{
+    with_word(words, mode_word(front_at(tokens, at)))
+}
+
+#[tactic(auto, using(crate::proofs::ModeWords::along_none, crate::proofs::ModeWords::along_more, crate::proofs::ModeWords::along_done, crate::proofs::ModeWords::along_twice, crate::proofs::ModeWords::word_shorter))]
+/// All mode words at a place. A second word of one axis is refused.
+pub fn read_words(tokens: &[Token], at: &mut usize) -> Result<Words, ParseErr>
+    ensures ok { IfOk result (λ w. ReadsWords (drop at.old tokens.now) (got w (drop at.new tokens.now))) }
+    ensures err { IfErr result (Says tokens.now (IsNone ReadsWords (drop at.old tokens.now))) }
+{
+    let mut words = no_words();
+    'words: loop {
+        match word_step(tokens, *at, words) {
+            WordStep::Done => return Ok(words),
+            WordStep::Twice => return Err(ParseErr::Refused(refusal_at(tokens, *at))),
+            WordStep::Adds(more) => {
+                words = more;
+                pass(tokens, at);
+            }
+        }
     }
 }
