@@ -1,1 +1,2 @@
-mod Probe
+mod Stub
+mod Unique

@@ -1,4 +1,3 @@
 pub mod Types
-pub mod Fronts
 pub mod Looks
 pub mod Patterns
