@@ -1,2 +1,3 @@
 mod Stub
 mod Unique
+mod Lists
