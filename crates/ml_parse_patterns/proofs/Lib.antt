@@ -1,3 +1,3 @@
-mod Stub
+mod OneType
 mod Unique
-mod Lists
+mod Places

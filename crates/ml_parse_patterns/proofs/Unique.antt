@@ -28,7 +28,7 @@ use Rattle.ml_parse_patterns.specs.declared.looks.ParamLead.{ParamLead}
 use Rattle.ml_parse_patterns.specs.Types.{ReadsType, ReadsWords}
 use Rattle.ml_parse_patterns.specs.Looks.{node, after, after_field, param_lead, is_param}
 use Rattle.ml_parse_patterns.specs.Patterns.{level_of, ReadsNames, no_name, one_name, ReadsSimple, leaf, name, quoted, paren, typed, bracket, brace, Reads, simple, bare, applied, no_cons, cons, no_tuple, tuple, either, whole, ReadsOthers, no_other, one_other, ReadsList, last_one, one_more, ReadsField, pun, field, ReadsFields, last_field, next_field, ReadsParamBy, short, parens, annotated, ReadsParam, ReadsParams, last_param, next_param}
-use Rattle.ml_parse_patterns.proofs.Stub.{one_type, one_words}
+use Rattle.ml_parse_patterns.proofs.OneType.{one_type, one_words}
 
 -- a second reading gives what a first one gave
 pub record Same {A : Type 0} (x y : A) (d e : ℕ) (us vs : List Token) : Type 0 where

@@ -95,7 +95,7 @@ pub enum ParamLead {
 }
 
 /// What stands so many tokens behind a place.
-#[tactic(auto, using(crate::proofs::Lists::drop_capped))]
+#[tactic(auto, using(crate::proofs::Places::drop_capped))]
 fn front_behind(tokens: &[Token], at: usize, by: usize) -> Front
     ensures { result ≡ front (drop by (drop at tokens.now)) }
 {
@@ -103,7 +103,7 @@ fn front_behind(tokens: &[Token], at: usize, by: usize) -> Front
 }
 
 /// Goes past so many tokens.
-#[tactic(auto, using(crate::proofs::Lists::drop_capped))]
+#[tactic(auto, using(crate::proofs::Places::drop_capped))]
 pub fn pass_all(tokens: &[Token], at: &mut usize, by: usize)
     ensures { drop at.new tokens.now ≡ drop by (drop at.old tokens.now) }
 {
@@ -182,7 +182,7 @@ fn is_pattern(lead: Lead) -> bool
 }
 
 /// Whether a constructor stands at a place, and its argument behind it.
-#[tactic(auto, using(crate::proofs::Lists::drop_capped), unfolding(crate::specs::Looks::applies))]
+#[tactic(auto, using(crate::proofs::Places::drop_capped), unfolding(crate::specs::Looks::applies))]
 pub fn applies_at(tokens: &[Token], at: usize) -> bool
     ensures { result ≡ applies (drop at tokens.now) }
 {
