@@ -5,7 +5,7 @@ use Rattle.ml_tree.specs.declared.pattern.Pat.{Pat}
 use Rattle.ml_tree.specs.declared.pattern.FieldPat.{FieldPat}
 use Rattle.ml_tree.specs.declared.pattern.Param.{Param}
 use Rattle.ml_parse_patterns.specs.declared.looks.Level.{Level}
-use Rattle.ml_parse_patterns.specs.declared.looks.Level.TheVariants.{Tuple}
+use Rattle.ml_parse_patterns.specs.declared.looks.Level.TheVariants.{Simple, Tuple}
 use Rattle.ml_parse_patterns.specs.declared.looks.Listing.{Listing}
 use Rattle.ml_parse_patterns.specs.declared.found.Found.{Found}
 use Rattle.ml_parse_patterns.specs.declared.found.FoundList.{FoundList}
@@ -44,6 +44,10 @@ pub record NoAnnotation (ts : List Token) : Type 0 where
 pub record IsFound (text : List ℕ) (level : Level) (left : ℕ) (ts rest : List Token) (f : Found) : Type 0 where
   pub reads : Reads text level ts f.pat f.depth rest
   pub small : f.depth ≤ left
+
+-- no simple pattern stands at the front of ts
+pub record IsNone (text : List ℕ) (ts : List Token) : Type 0 where
+  pub none : (p : Pat) (d : ℕ) (r : List Token) → Reads text Simple ts p d r → ⊥
 
 -- each pattern of a level at the front of ts is deeper
 pub record NoTree (text : List ℕ) (level : Level) (left : ℕ) (ts : List Token) : Type 0 where

@@ -4,7 +4,7 @@ ghost use Rattle.ml_cursor.specs.Says.{Says};
 ghost use Rattle.ml_parse_patterns.specs.declared.looks.Lead.TheVariants.{Whole, Name, Quoted, Paren, Bracket, Brace};
 ghost use Rattle.ml_parse_patterns.specs.declared.looks.Level.TheVariants.{Simple, Operand};
 ghost use Rattle.ml_parse_patterns.specs.Looks.{lead};
-ghost use Rattle.ml_parse_patterns.specs.Readings.{IsFound, NoTree, IsAnnotation, NoAnnotation};
+ghost use Rattle.ml_parse_patterns.specs.Readings.{IsFound, NoTree, IsNone, IsAnnotation, NoAnnotation};
 
 use crate::found::{Annotation, Found};
 use crate::levels::read_pattern;
@@ -39,7 +39,7 @@ fn read_leaf(tokens: &[Token], at: &mut usize, leaf: Leaf, width: usize) -> Foun
 fn read_name(tokens: &[Token], at: &mut usize) -> Result<Found, ParseErr>
     requires { lead (drop at.old tokens.now) ≡ Name }
     ensures ok { (text : List ℕ) → IfOk result (IsFound text Simple 1 (drop at.old tokens.now) (drop at.new tokens.now)) }
-    ensures err { (text : List ℕ) → IfErr result (Says tokens.now (NoTree text Simple 1 (drop at.old tokens.now))) }
+    ensures err { (text : List ℕ) → IfErr result (Says tokens.now (IsNone text (drop at.old tokens.now))) }
 {
     let from = *at;
     let words = read_words(tokens, at)?;
@@ -60,7 +60,7 @@ fn read_text(
     requires texts { All (IsSound text.now) tokens.now }
     requires begins { lead (drop at.old tokens.now) ≡ Quoted }
     ensures ok { IfOk result (IsFound text.now Simple 1 (drop at.old tokens.now) (drop at.new tokens.now)) }
-    ensures err { IfErr result (Says tokens.now (NoTree text.now Simple 1 (drop at.old tokens.now))) }
+    ensures err { IfErr result (Says tokens.now (IsNone text.now (drop at.old tokens.now))) }
 {
     let from = *at;
     let Some(&token) = token_at(tokens, from) else {
