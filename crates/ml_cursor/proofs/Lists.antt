@@ -1,5 +1,5 @@
 -- What stands at a place of a list is the front of what is left from there on.
-use Rattle.std.proofs.Common.{◌≡◌, ℕ, zero, suc, ◌+◌, List, [], ◌∷◌, drop, refl, ap, ◌∙◌, arith}
+use Rattle.std.proofs.Common.{◌≡◌, ℕ, zero, suc, ◌+◌, ◌≤◌, length, List, [], ◌∷◌, drop, refl, sym, ap, ◌∙◌, arith}
 use Rattle.std.specs.Prelude.{slice_get}
 
 pub first_from : {A : Type 0} (n : ℕ) (xs : List A) → slice_get (drop n xs) 0 ≡ slice_get xs n
@@ -22,3 +22,18 @@ drop_after (suc n) (x ∷ xs) = drop_after n xs
 -- going past the front of what is left
 pub past_from : {A : Type 0} (n : ℕ) (xs : List A) → drop (n + 1) xs ≡ drop 1 (drop n xs)
 past_from n xs = ap (λ k. drop k xs) (let e : n + 1 ≡ suc n = omega arith in e) ∙ drop_after n xs
+
+drop-none : {A : Type 0} (n : ℕ) → drop {A = A} n [] ≡ []
+drop-none zero = refl
+drop-none (suc n) = refl
+
+pub past_many : {A : Type 0} (n m : ℕ) (xs : List A) → drop (n + m) xs ≡ drop m (drop n xs)
+past_many zero m xs = ap (λ k. drop k xs) (let e : zero + m ≡ m = omega arith in e)
+past_many (suc n) m [] = drop-none (suc n + m) ∙ sym (drop-none m)
+past_many (suc n) m (x ∷ xs) = ap (λ k. drop k (x ∷ xs)) (let e : suc n + m ≡ suc (n + m) = omega arith in e) ∙ past_many n m xs
+
+pub past_all : {A : Type 0} (n : ℕ) (xs : List A) → length xs ≤ n → drop n xs ≡ []
+past_all zero [] h = refl
+past_all zero (x ∷ xs) h = absurd (omega (arith, h))
+past_all (suc n) [] h = refl
+past_all (suc n) (x ∷ xs) h = past_all n xs (omega (arith, h))

@@ -109,6 +109,14 @@ pub fn pass(tokens: &[Token], at: &mut usize)
     }
 }
 
+/// Goes past so many tokens, or to the end where there are fewer.
+#[tactic(auto, using(crate::proofs::Lists::past_many, crate::proofs::Lists::past_all))]
+pub fn skip(tokens: &[Token], at: &mut usize, count: usize)
+    ensures { drop at.new tokens.now ≡ drop count (drop at.old tokens.now) }
+{
+    *at = at.saturating_add(count);
+}
+
 /// Goes past this token where it stands at the place, and says whether it does.
 pub fn accept(tokens: &[Token], at: &mut usize, want: Front) -> bool
     ensures stands { IsTrue result ↔ (front (drop at.old tokens.now) ≡ want) }

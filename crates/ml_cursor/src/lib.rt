@@ -7,7 +7,7 @@ mod error;
 mod front;
 
 pub use cursor::{
-    accept, char_at, extent, front_at, int_at, pass, refusal_at, span_at, stands, take,
+    accept, char_at, extent, front_at, int_at, pass, refusal_at, skip, span_at, stands, take,
 };
 pub use error::ParseErr;
 pub use front::Front;

@@ -1,0 +1,2 @@
+pub mod ModeWords
+mod Unique

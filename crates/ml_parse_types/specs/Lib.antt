@@ -1,0 +1,4 @@
+pub mod Decls
+pub mod Looks
+pub mod Readers
+pub mod Types

@@ -1,0 +1,325 @@
+ghost use Rattle.std.specs.Prelude.{◌≡◌, ◌≢◌, ◌<◌, ◌≤◌, ◌^◌, drop, IfOk, IfErr, MatchOption};
+ghost use Rattle.ml_cursor.specs.Fronts.{front};
+ghost use Rattle.ml_cursor.specs.Says.{Says};
+ghost use Rattle.ml_parse_types.specs.declared.looks.Row.TheVariants.{Arguments};
+ghost use Rattle.ml_parse_types.specs.declared.looks.TypeStart.TheVariants.{Group};
+ghost use Rattle.ml_parse_types.specs.Looks.{type_start, no_words};
+ghost use Rattle.ml_parse_types.specs.Types.{got, read, product, group, an_arg, ReadsWords, ReadsOperand, ReadsPart, ReadsList, ReadsSide, SideBy, ReadsType};
+ghost use Rattle.ml_parse_types.specs.Readers.{IsRead, IsDeep, IsNone, ReadsAtom, ReadsNames, ReadsWhole};
+
+use crate::looks::{After, Row, TypeStart, behind_part, is_arrow, is_name, type_start};
+use crate::make::{make_applied, make_arg, make_arrow, make_postfix, make_tuple, make_variable};
+use crate::words::{no_words, read_words};
+use ml_cursor::{Front, ParseErr, extent, front_at, pass, refusal_at, skip, span_at, stands};
+use ml_lexer::Token;
+use ml_tree::{Arg, TyExpr, Words};
+use oxml_base::{Items, Span};
+use std::alloc::Global;
+
+/// The greatest depth of a type: type expressions and type parentheses on a path.
+pub const MAX_DEPTH: u32 = 1_000;
+
+/// A type with its depth.
+#[derive(Drop)]
+struct TypeFound {
+    ty: TyExpr,
+    depth: u32,
+}
+
+/// A side of an arrow with its depth.
+#[derive(Drop)]
+struct SideFound {
+    arg: Arg,
+    depth: u32,
+}
+
+/// The parts of a row with the greatest depth among them.
+#[derive(Drop)]
+struct ListFound {
+    list: Items<TyExpr>,
+    depth: u32,
+}
+
+/// The type variable at a place.
+fn variable(tokens: &[Token], at: &mut usize) -> TypeFound {
+    let span = span_at(tokens, *at);
+    pass(tokens, at);
+    TypeFound {
+        ty: make_variable(span),
+        depth: 1,
+    }
+}
+
+/// The name at a place, applied to nothing.
+fn bare_name(alloc: Global, tokens: &[Token], at: &mut usize) -> TypeFound {
+    let span = span_at(tokens, *at);
+    pass(tokens, at);
+    TypeFound {
+        ty: make_applied(span, span, Items::new(alloc)),
+        depth: 1,
+    }
+}
+
+/// The name at a place, applied to the type that stands before it from `start` on.
+fn postfix(
+    alloc: Global,
+    tokens: &[Token],
+    start: usize,
+    at: &mut usize,
+    found: TypeFound,
+) -> Result<TypeFound, ParseErr> {
+    let name = span_at(tokens, *at);
+    pass(tokens, at);
+    Ok(TypeFound {
+        ty: make_postfix(alloc, extent(tokens, start, *at), name, found.ty)?,
+        depth: found.depth + 1,
+    })
+}
+
+/// The names behind a type, each applied to what stands before it.
+fn read_names(
+    alloc: Global,
+    tokens: &[Token],
+    start: usize,
+    at: &mut usize,
+    atom: TypeFound,
+    left: u32,
+) -> Result<TypeFound, ParseErr> {
+    let mut found = atom;
+    'names: while is_name(front_at(tokens, *at)) {
+        if found.depth >= left {
+            return Err(ParseErr::Refused(refusal_at(tokens, *at)));
+        }
+        found = postfix(alloc, tokens, start, at, found)?;
+    }
+    Ok(found)
+}
+
+/// What stands in parentheses from `start` on: one type, or several arguments with a name behind.
+fn grouped(
+    tokens: &[Token],
+    start: usize,
+    at: &mut usize,
+    found: ListFound,
+) -> Result<TypeFound, ParseErr> {
+    let ListFound { mut list, depth } = found;
+    if list.len() == 1 {
+        return match list.pop() {
+            Some(ty) => Ok(TypeFound {
+                ty,
+                depth: depth + 1,
+            }),
+            None => unreachable!(),
+        };
+    }
+    if !is_name(front_at(tokens, *at)) {
+        return Err(ParseErr::Refused(refusal_at(tokens, *at)));
+    }
+    let name = span_at(tokens, *at);
+    pass(tokens, at);
+    Ok(TypeFound {
+        ty: make_applied(extent(tokens, start, *at), name, list),
+        depth: depth + 1,
+    })
+}
+
+/// A row of operands as one type: a single one is itself.
+fn product(
+    tokens: &[Token],
+    from: usize,
+    at: usize,
+    found: ListFound,
+    left: u32,
+) -> Result<TypeFound, ParseErr> {
+    let ListFound { mut list, depth } = found;
+    if list.len() == 1 {
+        return match list.pop() {
+            Some(ty) => Ok(TypeFound { ty, depth }),
+            None => unreachable!(),
+        };
+    }
+    if depth >= left {
+        return Err(ParseErr::Refused(refusal_at(tokens, at)));
+    }
+    Ok(TypeFound {
+        ty: make_tuple(extent(tokens, from, at), list),
+        depth: depth + 1,
+    })
+}
+
+/// The type of a side that has no words of its own.
+fn without_words(arg: Arg) -> Option<TyExpr> {
+    let Arg { words, ty } = arg;
+    if words.loc.is_none() && words.uni.is_none() && words.aff.is_none() {
+        Some(ty)
+    } else {
+        None
+    }
+}
+
+/// An arrow between two sides, with no words before the whole.
+fn arrow(
+    alloc: Global,
+    span: Span,
+    words: Words,
+    from: TypeFound,
+    to: SideFound,
+) -> Result<SideFound, ParseErr> {
+    let depth = from.depth.max(to.depth) + 1;
+    let ty = make_arrow(alloc, span, make_arg(words, from.ty), to.arg)?;
+    Ok(SideFound {
+        arg: make_arg(no_words(), ty),
+        depth,
+    })
+}
+
+#[cycle(types)]
+fn read_atom(
+    alloc: Global,
+    tokens: &[Token],
+    at: &mut usize,
+    left: u32,
+) -> Result<TypeFound, ParseErr> {
+    if left == 0 {
+        return Err(ParseErr::Refused(refusal_at(tokens, *at)));
+    }
+    match type_start(front_at(tokens, *at)) {
+        TypeStart::Variable => Ok(variable(tokens, at)),
+        TypeStart::Named => Ok(bare_name(alloc, tokens, at)),
+        TypeStart::Group => read_group(alloc, tokens, at, left - 1),
+        TypeStart::Other => Err(ParseErr::Refused(refusal_at(tokens, *at))),
+    }
+}
+
+#[cycle(types)]
+fn read_group(
+    alloc: Global,
+    tokens: &[Token],
+    at: &mut usize,
+    left: u32,
+) -> Result<TypeFound, ParseErr> {
+    let start = *at;
+    pass(tokens, at);
+    let list = read_list(alloc, tokens, at, Row::Arguments, left)?;
+    grouped(tokens, start, at, list)
+}
+
+#[cycle(types)]
+fn read_operand(
+    alloc: Global,
+    tokens: &[Token],
+    at: &mut usize,
+    left: u32,
+) -> Result<TypeFound, ParseErr> {
+    let start = *at;
+    let atom = read_atom(alloc, tokens, at, left)?;
+    read_names(alloc, tokens, start, at, atom, left)
+}
+
+#[cycle(types)]
+fn read_part(
+    alloc: Global,
+    tokens: &[Token],
+    at: &mut usize,
+    row: Row,
+    left: u32,
+) -> Result<TypeFound, ParseErr> {
+    match row {
+        Row::Arguments => read_whole(alloc, tokens, at, Row::Factors, left),
+        Row::Alone | Row::Factors => read_operand(alloc, tokens, at, left),
+    }
+}
+
+#[cycle(types)]
+fn read_list(
+    alloc: Global,
+    tokens: &[Token],
+    at: &mut usize,
+    row: Row,
+    left: u32,
+) -> Result<ListFound, ParseErr> {
+    let mut list = Items::new(alloc);
+    let mut depth = 0;
+    'parts: loop {
+        let found = read_part(alloc, tokens, at, row, left)?;
+        depth = depth.max(found.depth);
+        list.push(found.ty)?;
+        match behind_part(row, front_at(tokens, *at)) {
+            After::Goes => pass(tokens, at),
+            After::Ends(tail) => {
+                skip(tokens, at, tail);
+                return Ok(ListFound { list, depth });
+            }
+            After::Fails => return Err(ParseErr::Refused(refusal_at(tokens, *at))),
+        }
+    }
+}
+
+#[cycle(types)]
+fn read_side(
+    alloc: Global,
+    tokens: &[Token],
+    at: &mut usize,
+    row: Row,
+    left: u32,
+) -> Result<SideFound, ParseErr> {
+    let start = *at;
+    let words = read_words(tokens, at)?;
+    let from = *at;
+    let list = read_list(alloc, tokens, at, row, left)?;
+    let product = product(tokens, from, *at, list, left)?;
+    read_arrow(alloc, tokens, start, at, row, words, product, left)
+}
+
+/// What goes on behind the words and the product that a side begins with.
+#[cycle(types)]
+fn read_arrow(
+    alloc: Global,
+    tokens: &[Token],
+    start: usize,
+    at: &mut usize,
+    row: Row,
+    words: Words,
+    product: TypeFound,
+    left: u32,
+) -> Result<SideFound, ParseErr> {
+    if !is_arrow(front_at(tokens, *at)) {
+        return Ok(SideFound {
+            arg: make_arg(words, product.ty),
+            depth: product.depth,
+        });
+    }
+    if product.depth >= left {
+        return Err(ParseErr::Refused(refusal_at(tokens, *at)));
+    }
+    pass(tokens, at);
+    let to = read_side(alloc, tokens, at, row, left - 1)?;
+    arrow(alloc, extent(tokens, start, *at), words, product, to)
+}
+
+/// A type: a side without words of its own.
+#[cycle(types)]
+fn read_whole(
+    alloc: Global,
+    tokens: &[Token],
+    at: &mut usize,
+    row: Row,
+    left: u32,
+) -> Result<TypeFound, ParseErr> {
+    let found = read_side(alloc, tokens, at, row, left)?;
+    let SideFound { arg, depth } = found;
+    match without_words(arg) {
+        Some(ty) => Ok(TypeFound { ty, depth }),
+        None => Err(ParseErr::Refused(refusal_at(tokens, *at))),
+    }
+}
+
+/// The type at a place, which goes past it.
+pub fn read_type(
+    alloc: Global,
+    tokens: &[Token],
+    at: &mut usize,
+    row: Row,
+) -> Result<TyExpr, ParseErr> {
+    Ok(read_whole(alloc, tokens, at, row, MAX_DEPTH)?.ty)
+}
