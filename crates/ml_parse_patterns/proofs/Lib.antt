@@ -1,0 +1,6 @@
+mod OneType
+mod Unique
+mod Places
+mod Depths
+mod Refusals
+mod Founds

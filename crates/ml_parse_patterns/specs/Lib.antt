@@ -1,0 +1,4 @@
+pub mod Types
+pub mod Looks
+pub mod Patterns
+pub mod Readings
