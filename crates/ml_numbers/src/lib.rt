@@ -1,0 +1,10 @@
+//! Numbers for the nodes and the type expressions of a program.
+#![tactic(auto)]
+
+mod expr;
+mod next;
+mod pattern;
+mod program;
+mod types;
+
+pub use program::number;
