@@ -28,6 +28,7 @@ use Rattle.ml_parser.specs.declared.looks.Joint.TheVariants as J
 use Rattle.ml_parser.specs.declared.looks.ItemLead.{ItemLead}
 use Rattle.ml_parser.specs.declared.looks.ItemLead.TheVariants as I
 use Rattle.ml_parser.specs.declared.looks.ListKind.{ListKind}
+use Rattle.ml_parser.specs.declared.operators.Operator.{Operator}
 use Rattle.ml_parser.specs.declared.looks.ListKind.TheVariants as Q
 
 -- the second and the third token
@@ -138,10 +139,6 @@ unfoldable pub begins_expression : List Token → Bool
 begins_expression ts = begins_open_by (front ts) || begins_closed_let ts
 
 -- operators, the levels from the tightest on
-
-pub record Operator : Type 0 where
-  pub level : ℕ
-  pub joint : Joint
 
 abbrev pub binary : ℕ → BinOp → Option Operator
 binary n op = Some (record { level = n; joint = J.Binary op })

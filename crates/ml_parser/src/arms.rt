@@ -1,9 +1,16 @@
 //! The arms of a match.
+ghost use Rattle.std.specs.Prelude.{drop, All, IfOk, IfErr};
+ghost use Rattle.ml_lexer.specs.Tokens.{IsSound};
+ghost use Rattle.ml_cursor.specs.Fronts.{front};
+ghost use Rattle.ml_parser.specs.Looks.{behind_bar};
+ghost use Rattle.ml_parser.specs.Grammar.{arms, GuardBy, Lists, ItemBy};
+ghost use Rattle.ml_parser.specs.Readings.{IsRead, Actions};
+ghost use Rattle.ml_parser.specs.Refusals.{IsRefused};
 
 use crate::expression::{read_parts, read_until};
-use crate::found::{Found, no_parts, with_part};
+use crate::found::{Found, just, no_parts, nothing, pair, with_part};
 use crate::looks::ListKind;
-use crate::parts::{Action, arm};
+use crate::parts::arm;
 use crate::source::Source;
 use ml_cursor::{Front, ParseErr, accept, take};
 use ml_parse_patterns::read_pattern;
@@ -18,7 +25,11 @@ pub fn read_arms(
     source: &Source,
     at: &mut usize,
     left: u32,
-) -> Result<Found<Items<Arm>>, ParseErr> {
+) -> Result<Found<Items<Arm>>, ParseErr>
+    requires texts { All (IsSound source.now.text.now) source.now.tokens.now }
+    ensures ok { IfOk result (λ f. IsRead (Lists source.now.text.now arms (behind_bar (drop at.old source.now.tokens.now))) left f.tree f.depth (drop at.new source.now.tokens.now)) }
+    ensures err { IfErr result (IsRefused source.now.tokens.now) }
+{
     accept(source.tokens, at, Front::Bar);
     let mut list = no_parts(alloc);
     'arms: loop {
@@ -37,7 +48,11 @@ fn read_arm(
     source: &Source,
     at: &mut usize,
     left: u32,
-) -> Result<Found<Arm>, ParseErr> {
+) -> Result<Found<Arm>, ParseErr>
+    requires texts { All (IsSound source.now.text.now) source.now.tokens.now }
+    ensures ok { IfOk result (λ f. IsRead (ItemBy source.now.text.now arms (drop at.old source.now.tokens.now)) left f.tree f.depth (drop at.new source.now.tokens.now)) }
+    ensures err { IfErr result (IsRefused source.now.tokens.now) }
+{
     let pat = read_pattern(alloc, source.text, source.tokens, at, left)?;
     let action = read_action(alloc, source, at, left)?;
     Ok(arm(pat, action))
@@ -50,10 +65,14 @@ fn read_action(
     source: &Source,
     at: &mut usize,
     left: u32,
-) -> Result<Action, ParseErr> {
+) -> Result<Found<(Option<Expr>, Expr)>, ParseErr>
+    requires texts { All (IsSound source.now.text.now) source.now.tokens.now }
+    ensures ok { IfOk result (λ f. IsRead (Actions source.now.text.now (drop at.old source.now.tokens.now)) left f.tree f.depth (drop at.new source.now.tokens.now)) }
+    ensures err { IfErr result (IsRefused source.now.tokens.now) }
+{
     let guard = read_guard(alloc, source, at, left)?;
     let body = read_parts(ListKind::Statements, alloc, source, at, left)?;
-    Ok(Action { guard, body })
+    Ok(pair(guard, body))
 }
 
 /// `[when seq] ->`
@@ -63,10 +82,14 @@ fn read_guard(
     source: &Source,
     at: &mut usize,
     left: u32,
-) -> Result<Option<Found<Expr>>, ParseErr> {
+) -> Result<Found<Option<Expr>>, ParseErr>
+    requires texts { All (IsSound source.now.text.now) source.now.tokens.now }
+    ensures ok { IfOk result (λ f. IsRead (GuardBy source.now.text.now (front (drop at.old source.now.tokens.now)) (drop at.old source.now.tokens.now)) left f.tree f.depth (drop at.new source.now.tokens.now)) }
+    ensures err { IfErr result (IsRefused source.now.tokens.now) }
+{
     if accept(source.tokens, at, Front::When) {
-        return Ok(Some(read_until(Front::Arrow, alloc, source, at, left)?));
+        return Ok(just(read_until(Front::Arrow, alloc, source, at, left)?));
     }
     take(source.tokens, at, Front::Arrow)?;
-    Ok(None)
+    Ok(nothing())
 }

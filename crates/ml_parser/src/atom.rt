@@ -1,15 +1,21 @@
 //! Atoms: leaves, parentheses, lists and records.
+ghost use Rattle.std.specs.Prelude.{drop, All, IfOk, IfErr};
+ghost use Rattle.ml_lexer.specs.Tokens.{IsSound};
+ghost use Rattle.ml_parser.specs.declared.looks.AtomLead.{AtomLead};
+ghost use Rattle.ml_parser.specs.Grammar.{atom, Reads, AtomBy};
+ghost use Rattle.ml_parser.specs.Readings.{IsRead};
+ghost use Rattle.ml_parser.specs.Refusals.{IsRefused};
 
+use crate::begins::atom_at;
+use crate::brackets::{close_list, close_paren, close_parens, close_record};
 use crate::expression::read_parts;
-use crate::found::{Found, open_form, refuse};
+use crate::found::{Found, open_form};
 use crate::leaf::{read_leaf, read_text};
 use crate::list::read_list;
 use crate::looks::{AtomLead, ListKind};
-use crate::begins::atom_at;
-use crate::brackets::{close_list, close_paren, close_parens, close_record};
 use crate::record::read_fields;
 use crate::source::Source;
-use ml_cursor::{Front, ParseErr};
+use ml_cursor::{Front, ParseErr, refusal_at};
 use ml_tree::Expr;
 use std::alloc::Global;
 
@@ -20,15 +26,19 @@ pub fn read_atom(
     source: &Source,
     at: &mut usize,
     left: u32,
-) -> Result<Found<Expr>, ParseErr> {
+) -> Result<Found<Expr>, ParseErr>
+    requires texts { All (IsSound source.now.text.now) source.now.tokens.now }
+    ensures ok { IfOk result (λ f. IsRead (Reads source.now.text.now atom (drop at.old source.now.tokens.now)) left f.tree f.depth (drop at.new source.now.tokens.now)) }
+    ensures err { IfErr result (IsRefused source.now.tokens.now) }
+{
     match atom_at(source.tokens, *at) {
         AtomLead::Paren => Ok(read_paren(alloc, source, at, left)?),
         AtomLead::Begin => Ok(read_begin(alloc, source, at, left)?),
         AtomLead::List => Ok(read_elements(alloc, source, at, left)?),
         AtomLead::Record => Ok(read_record(alloc, source, at, left)?),
-        AtomLead::Leaf(leaf) => Ok(read_leaf(leaf, source.tokens, at, left)?),
+        AtomLead::Leaf(leaf) => Ok(read_leaf(leaf, source, at, left)?),
         AtomLead::Text => Ok(read_text(alloc, source, at, left)?),
-        AtomLead::Nothing => Err(refuse(source.tokens, *at)),
+        AtomLead::Nothing => Err(ParseErr::Refused(refusal_at(source.tokens, *at))),
     }
 }
 
@@ -39,7 +49,11 @@ fn read_paren(
     source: &Source,
     at: &mut usize,
     left: u32,
-) -> Result<Found<Expr>, ParseErr> {
+) -> Result<Found<Expr>, ParseErr>
+    requires texts { All (IsSound source.now.text.now) source.now.tokens.now }
+    ensures ok { IfOk result (λ f. IsRead (AtomBy source.now.text.now AtomLead.Paren (drop at.old source.now.tokens.now)) left f.tree f.depth (drop at.new source.now.tokens.now)) }
+    ensures err { IfErr result (IsRefused source.now.tokens.now) }
+{
     let head = open_form(source.tokens, at, left)?;
     let inner = read_parts(ListKind::Statements, alloc, source, at, head.below)?;
     Ok(close_parens(alloc, source.tokens, at, head, inner)?)
@@ -52,7 +66,11 @@ fn read_begin(
     source: &Source,
     at: &mut usize,
     left: u32,
-) -> Result<Found<Expr>, ParseErr> {
+) -> Result<Found<Expr>, ParseErr>
+    requires texts { All (IsSound source.now.text.now) source.now.tokens.now }
+    ensures ok { IfOk result (λ f. IsRead (AtomBy source.now.text.now AtomLead.Begin (drop at.old source.now.tokens.now)) left f.tree f.depth (drop at.new source.now.tokens.now)) }
+    ensures err { IfErr result (IsRefused source.now.tokens.now) }
+{
     let head = open_form(source.tokens, at, left)?;
     let inner = read_parts(ListKind::Statements, alloc, source, at, head.below)?;
     Ok(close_paren(alloc, source.tokens, at, Front::End, head, inner)?)
@@ -65,7 +83,11 @@ fn read_elements(
     source: &Source,
     at: &mut usize,
     left: u32,
-) -> Result<Found<Expr>, ParseErr> {
+) -> Result<Found<Expr>, ParseErr>
+    requires texts { All (IsSound source.now.text.now) source.now.tokens.now }
+    ensures ok { IfOk result (λ f. IsRead (AtomBy source.now.text.now AtomLead.List (drop at.old source.now.tokens.now)) left f.tree f.depth (drop at.new source.now.tokens.now)) }
+    ensures err { IfErr result (IsRefused source.now.tokens.now) }
+{
     let head = open_form(source.tokens, at, left)?;
     let list = read_list(ListKind::Elements, alloc, source, at, head.below)?;
     Ok(close_list(source.tokens, at, head, list)?)
@@ -78,7 +100,11 @@ fn read_record(
     source: &Source,
     at: &mut usize,
     left: u32,
-) -> Result<Found<Expr>, ParseErr> {
+) -> Result<Found<Expr>, ParseErr>
+    requires texts { All (IsSound source.now.text.now) source.now.tokens.now }
+    ensures ok { IfOk result (λ f. IsRead (AtomBy source.now.text.now AtomLead.Record (drop at.old source.now.tokens.now)) left f.tree f.depth (drop at.new source.now.tokens.now)) }
+    ensures err { IfErr result (IsRefused source.now.tokens.now) }
+{
     let head = open_form(source.tokens, at, left)?;
     let fields = read_fields(alloc, source, at, head.below)?;
     Ok(close_record(source.tokens, at, head, fields)?)

@@ -1,13 +1,18 @@
 //! The bindings of a `let`.
+ghost use Rattle.std.specs.Prelude.{drop, All, IfOk, IfErr};
+ghost use Rattle.ml_lexer.specs.Tokens.{IsSound};
+ghost use Rattle.ml_parser.specs.Grammar.{binds, Lists, ItemBy};
+ghost use Rattle.ml_parser.specs.Readings.{IsRead, Values};
+ghost use Rattle.ml_parser.specs.Refusals.{IsRefused};
 
 use crate::expression::read_parts;
 use crate::found::{Found, no_parts, with_part};
 use crate::looks::ListKind;
-use crate::parts::{Value, bind};
+use crate::parts::{bind, value};
 use crate::source::Source;
 use crate::target::{read_result, read_target};
-use ml_cursor::{Front, ParseErr, accept, take};
-use ml_tree::Bind;
+use ml_cursor::{Front, ParseErr, accept};
+use ml_tree::{Bind, Expr, TyExpr};
 use oxml_base::Items;
 use std::alloc::Global;
 
@@ -18,7 +23,11 @@ pub fn read_binds(
     source: &Source,
     at: &mut usize,
     left: u32,
-) -> Result<Found<Items<Bind>>, ParseErr> {
+) -> Result<Found<Items<Bind>>, ParseErr>
+    requires texts { All (IsSound source.now.text.now) source.now.tokens.now }
+    ensures ok { IfOk result (λ f. IsRead (Lists source.now.text.now binds (drop at.old source.now.tokens.now)) left f.tree f.depth (drop at.new source.now.tokens.now)) }
+    ensures err { IfErr result (IsRefused source.now.tokens.now) }
+{
     let mut list = no_parts(alloc);
     'binds: loop {
         let bind = read_bind(alloc, source, at, left)?;
@@ -36,7 +45,11 @@ fn read_bind(
     source: &Source,
     at: &mut usize,
     left: u32,
-) -> Result<Found<Bind>, ParseErr> {
+) -> Result<Found<Bind>, ParseErr>
+    requires texts { All (IsSound source.now.text.now) source.now.tokens.now }
+    ensures ok { IfOk result (λ f. IsRead (ItemBy source.now.text.now binds (drop at.old source.now.tokens.now)) left f.tree f.depth (drop at.new source.now.tokens.now)) }
+    ensures err { IfErr result (IsRefused source.now.tokens.now) }
+{
     let target = read_target(alloc, source, at, left)?;
     let value = read_value(alloc, source, at, left)?;
     Ok(bind(target, value))
@@ -49,8 +62,12 @@ fn read_value(
     source: &Source,
     at: &mut usize,
     left: u32,
-) -> Result<Value, ParseErr> {
+) -> Result<Found<(Option<TyExpr>, Expr)>, ParseErr>
+    requires texts { All (IsSound source.now.text.now) source.now.tokens.now }
+    ensures ok { IfOk result (λ f. IsRead (Values source.now.text.now (drop at.old source.now.tokens.now)) left f.tree f.depth (drop at.new source.now.tokens.now)) }
+    ensures err { IfErr result (IsRefused source.now.tokens.now) }
+{
     let result = read_result(alloc, source.tokens, at)?;
     let body = read_parts(ListKind::Statements, alloc, source, at, left)?;
-    Ok(Value { result, body })
+    Ok(value(result, body))
 }

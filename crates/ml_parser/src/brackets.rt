@@ -1,10 +1,17 @@
 //! Forms that a bracket closes: the tokens that end them, and their nodes.
-ghost use Rattle.std.specs.Prelude.{◌<◌, ◌^◌, ◌-◌};
+ghost use Rattle.std.specs.Prelude.{◌≡◌, ◌≢◌, ◌+◌, ◌<◌, ◌-◌, ◌^◌, drop, max, IfOk, IfErr};
+ghost use Rattle.ml_tree.specs.declared.expr.ExprKind.{ExprKind};
+ghost use Rattle.ml_cursor.specs.declared.front.Front.{Front};
+ghost use Rattle.ml_cursor.specs.Fronts.{front};
+ghost use Rattle.ml_cursor.specs.Places.{first_span};
+ghost use Rattle.ml_cursor.specs.Says.{Says};
+ghost use Rattle.ml_parser.specs.Trees.{node, start_of};
+ghost use Rattle.ml_parser.specs.Refusals.{IsClosed, NeverClosed, ClosesParens, IsField};
 
 use crate::found::{Found, Head, deeper, joined, node};
 use ml_cursor::{Front, ParseErr, stands, take};
 use ml_lexer::Token;
-use ml_parse_types::read_type;
+use ml_parse_types::{Row, read_type};
 use ml_tree::{Expr, ExprKind, FieldExpr};
 use oxml_base::Items;
 use sqlite_items::Boxed;
@@ -16,7 +23,11 @@ pub fn field_of(
     tokens: &[Token],
     at: &mut usize,
     found: Found<Expr>,
-) -> Result<Found<Expr>, ParseErr> {
+) -> Result<Found<Expr>, ParseErr>
+    requires { found.depth < 2 ^ 32 - 1 }
+    ensures ok { IfOk result (λ f. IsField found.tree found.depth (drop at.old tokens.now) f.tree f.depth (drop at.new tokens.now)) }
+    ensures err { IfErr result (Says tokens.now (NeverClosed (IsField found.tree found.depth (drop at.old tokens.now)))) }
+{
     take(tokens, at, Front::Dot)?;
     let name = take(tokens, at, Front::Lower)?;
     let span = joined(found.tree.span, name);
@@ -31,7 +42,12 @@ pub fn close_index(
     at: &mut usize,
     text: Found<Expr>,
     index: Found<Expr>,
-) -> Result<Found<Expr>, ParseErr> {
+) -> Result<Found<Expr>, ParseErr>
+    requires text { text.depth < 2 ^ 32 - 1 }
+    requires index { index.depth < 2 ^ 32 - 1 }
+    ensures ok { IfOk result (λ f. IsClosed (start_of text.tree) Front.CloseBracket (ExprKind.Index text.tree index.tree) (max text.depth index.depth) (drop at.old tokens.now) f.tree f.depth (drop at.new tokens.now)) }
+    ensures err { IfErr result (Says tokens.now (front (drop at.old tokens.now) ≢ Front.CloseBracket)) }
+{
     let close = take(tokens, at, Front::CloseBracket)?;
     let span = joined(text.tree.span, close);
     let depth = deeper(text.depth, index.depth);
@@ -46,7 +62,11 @@ pub fn close_list(
     at: &mut usize,
     head: Head,
     list: Found<Items<Expr>>,
-) -> Result<Found<Expr>, ParseErr> {
+) -> Result<Found<Expr>, ParseErr>
+    requires { list.depth < 2 ^ 32 - 1 }
+    ensures ok { IfOk result (λ f. IsClosed head.span.start Front.CloseBracket (ExprKind.List list.tree) list.depth (drop at.old tokens.now) f.tree f.depth (drop at.new tokens.now)) }
+    ensures err { IfErr result (Says tokens.now (front (drop at.old tokens.now) ≢ Front.CloseBracket)) }
+{
     let close = take(tokens, at, Front::CloseBracket)?;
     Ok(node(joined(head.span, close), ExprKind::List(list.tree), list.depth))
 }
@@ -57,7 +77,11 @@ pub fn close_record(
     at: &mut usize,
     head: Head,
     fields: Found<Items<FieldExpr>>,
-) -> Result<Found<Expr>, ParseErr> {
+) -> Result<Found<Expr>, ParseErr>
+    requires { fields.depth < 2 ^ 32 - 1 }
+    ensures ok { IfOk result (λ f. IsClosed head.span.start Front.CloseBrace (ExprKind.Fields fields.tree) fields.depth (drop at.old tokens.now) f.tree f.depth (drop at.new tokens.now)) }
+    ensures err { IfErr result (Says tokens.now (front (drop at.old tokens.now) ≢ Front.CloseBrace)) }
+{
     let close = take(tokens, at, Front::CloseBrace)?;
     Ok(node(joined(head.span, close), ExprKind::Fields(fields.tree), fields.depth))
 }
@@ -70,25 +94,14 @@ pub fn close_paren(
     close: Front,
     head: Head,
     inner: Found<Expr>,
-) -> Result<Found<Expr>, ParseErr> {
-    let close = take(tokens, at, close)?;
+) -> Result<Found<Expr>, ParseErr>
+    requires { inner.depth < 2 ^ 32 - 1 }
+    ensures ok { IfOk result (λ f. IsClosed head.span.start close (ExprKind.Paren inner.tree) inner.depth (drop at.old tokens.now) f.tree f.depth (drop at.new tokens.now)) }
+    ensures err { IfErr result (Says tokens.now (front (drop at.old tokens.now) ≢ close)) }
+{
+    let end = take(tokens, at, close)?;
     let kind = ExprKind::Paren(Boxed::new(alloc, inner.tree)?);
-    Ok(node(joined(head.span, close), kind, inner.depth))
-}
-
-/// `(e : t)`, whose `:` stands at the place.
-fn close_typed(
-    alloc: Global,
-    tokens: &[Token],
-    at: &mut usize,
-    head: Head,
-    inner: Found<Expr>,
-) -> Result<Found<Expr>, ParseErr> {
-    take(tokens, at, Front::Colon)?;
-    let ty = read_type(alloc, tokens, at)?;
-    let close = take(tokens, at, Front::CloseParen)?;
-    let kind = ExprKind::Typed(Boxed::new(alloc, inner.tree)?, ty);
-    Ok(node(joined(head.span, close), kind, inner.depth))
+    Ok(node(joined(head.span, end), kind, inner.depth))
 }
 
 /// `(e)` or `(e : t)`, behind whose expression the place is.
@@ -98,9 +111,17 @@ pub fn close_parens(
     at: &mut usize,
     head: Head,
     inner: Found<Expr>,
-) -> Result<Found<Expr>, ParseErr> {
-    if stands(tokens, *at, Front::Colon) {
-        return Ok(close_typed(alloc, tokens, at, head, inner)?);
+) -> Result<Found<Expr>, ParseErr>
+    requires { inner.depth < 2 ^ 32 - 1 }
+    ensures ok { IfOk result (λ f. ClosesParens head.span.start inner.tree inner.depth (drop at.old tokens.now) f.tree f.depth (drop at.new tokens.now)) }
+    ensures err { IfErr result (Says tokens.now (NeverClosed (ClosesParens head.span.start inner.tree inner.depth (drop at.old tokens.now)))) }
+{
+    if !stands(tokens, *at, Front::Colon) {
+        return Ok(close_paren(alloc, tokens, at, Front::CloseParen, head, inner)?);
     }
-    Ok(close_paren(alloc, tokens, at, Front::CloseParen, head, inner)?)
+    take(tokens, at, Front::Colon)?;
+    let ty = read_type(alloc, tokens, at, Row::Factors)?;
+    let close = take(tokens, at, Front::CloseParen)?;
+    let kind = ExprKind::Typed(Boxed::new(alloc, inner.tree)?, ty);
+    Ok(node(joined(head.span, close), kind, inner.depth))
 }

@@ -1,7 +1,11 @@
 //! Expressions by levels: sequences, tuples, operators, applications.
-ghost use Rattle.std.specs.Prelude.{◌≡◌, ◌<◌, ◌≤◌};
+ghost use Rattle.std.specs.Prelude.{◌<◌, ◌≤◌, suc, true, drop, All, IfOk, IfErr};
+ghost use Rattle.ml_lexer.specs.Tokens.{IsSound};
+ghost use Rattle.ml_parser.specs.Looks.{operator_at};
+ghost use Rattle.ml_parser.specs.Grammar.{operators, listed, part_of, Reads, LevelBy};
+ghost use Rattle.ml_parser.specs.Readings.{IsRead, Until, Behind, Infix, Levels};
+ghost use Rattle.ml_parser.specs.Refusals.{IsRefused};
 
-use crate::atom::read_atom;
 use crate::found::{Found, as_part, closed_by};
 use crate::list::{goes_on, read_list};
 use crate::looks::{Joint, ListKind};
@@ -22,9 +26,15 @@ pub fn read_part(
     source: &Source,
     at: &mut usize,
     left: u32,
-) -> Result<Found<Expr>, ParseErr> {
+) -> Result<Found<Expr>, ParseErr>
+    requires texts { All (IsSound source.now.text.now) source.now.tokens.now }
+    ensures ok { IfOk result (λ f. IsRead (Reads source.now.text.now (part_of kind) (drop at.old source.now.tokens.now)) left f.tree f.depth (drop at.new source.now.tokens.now)) }
+    ensures err { IfErr result (IsRefused source.now.tokens.now) }
+{
     match kind {
-        ListKind::Statements | ListKind::Elements => Ok(read_parts(ListKind::Parts, alloc, source, at, left)?),
+        ListKind::Statements | ListKind::Elements => {
+            Ok(read_parts(ListKind::Parts, alloc, source, at, left)?)
+        }
         ListKind::Parts => Ok(read_operators(LAST_LEVEL, alloc, source, at, left)?),
         ListKind::Arguments => Ok(read_simple(alloc, source, at, left)?),
     }
@@ -38,7 +48,11 @@ pub fn read_parts(
     source: &Source,
     at: &mut usize,
     left: u32,
-) -> Result<Found<Expr>, ParseErr> {
+) -> Result<Found<Expr>, ParseErr>
+    requires texts { All (IsSound source.now.text.now) source.now.tokens.now }
+    ensures ok { IfOk result (λ f. IsRead (Reads source.now.text.now (listed kind) (drop at.old source.now.tokens.now)) left f.tree f.depth (drop at.new source.now.tokens.now)) }
+    ensures err { IfErr result (IsRefused source.now.tokens.now) }
+{
     let first = read_part(kind, alloc, source, at, left)?;
     if !goes_on(kind, source, at) {
         return Ok(first);
@@ -58,6 +72,9 @@ pub fn read_operators(
     left: u32,
 ) -> Result<Found<Expr>, ParseErr>
     requires level { level ≤ 8 }
+    requires texts { All (IsSound source.now.text.now) source.now.tokens.now }
+    ensures ok { IfOk result (λ f. IsRead (Reads source.now.text.now (operators level) (drop at.old source.now.tokens.now)) left f.tree f.depth (drop at.new source.now.tokens.now)) }
+    ensures err { IfErr result (IsRefused source.now.tokens.now) }
 {
     let mut found = read_operand(alloc, source, at, left)?;
     for lower in 0..level {
@@ -77,6 +94,10 @@ pub fn read_level(
     left: u32,
 ) -> Result<Found<Expr>, ParseErr>
     requires level { lower < 8 }
+    requires small { first.depth ≤ left }
+    requires texts { All (IsSound source.now.text.now) source.now.tokens.now }
+    ensures ok { IfOk result (λ f. IsRead (Levels source.now.text.now lower first.tree first.depth (drop at.old source.now.tokens.now)) left f.tree f.depth (drop at.new source.now.tokens.now)) }
+    ensures err { IfErr result (IsRefused source.now.tokens.now) }
 {
     if groups_left(lower + 1) {
         return Ok(read_to_left(lower, alloc, source, at, first, left)?);
@@ -98,9 +119,13 @@ fn read_to_left(
     left: u32,
 ) -> Result<Found<Expr>, ParseErr>
     requires level { lower < 8 }
+    requires small { first.depth ≤ left }
+    requires texts { All (IsSound source.now.text.now) source.now.tokens.now }
+    ensures ok { IfOk result (λ f. IsRead (LevelBy source.now.text.now lower true (operator_at (suc lower) (drop at.old source.now.tokens.now)) (drop at.old source.now.tokens.now) first.tree first.depth) left f.tree f.depth (drop at.new source.now.tokens.now)) }
+    ensures err { IfErr result (IsRefused source.now.tokens.now) }
 {
     let mut found = first;
-    while let Some(joint) = operator_at(source.tokens, *at, lower + 1) {
+    'operators: while let Some(joint) = operator_at(source.tokens, *at, lower + 1) {
         found = read_second(joint, lower, alloc, source, at, found, left)?;
     }
     Ok(found)
@@ -119,6 +144,10 @@ fn read_second(
     left: u32,
 ) -> Result<Found<Expr>, ParseErr>
     requires level { level ≤ 8 }
+    requires small { first.depth ≤ left }
+    requires texts { All (IsSound source.now.text.now) source.now.tokens.now }
+    ensures ok { IfOk result (λ f. IsRead (Infix source.now.text.now level joint first.tree first.depth (drop at.old source.now.tokens.now)) left f.tree f.depth (drop at.new source.now.tokens.now)) }
+    ensures err { IfErr result (IsRefused source.now.tokens.now) }
 {
     let first = as_part(source.tokens, *at, first, left)?;
     pass(source.tokens, at);
@@ -134,7 +163,11 @@ pub fn read_until(
     source: &Source,
     at: &mut usize,
     left: u32,
-) -> Result<Found<Expr>, ParseErr> {
+) -> Result<Found<Expr>, ParseErr>
+    requires texts { All (IsSound source.now.text.now) source.now.tokens.now }
+    ensures ok { IfOk result (λ f. IsRead (Until source.now.text.now end (drop at.old source.now.tokens.now)) left f.tree f.depth (drop at.new source.now.tokens.now)) }
+    ensures err { IfErr result (IsRefused source.now.tokens.now) }
+{
     let found = read_parts(ListKind::Statements, alloc, source, at, left)?;
     Ok(closed_by(source.tokens, at, end, found)?)
 }
@@ -147,7 +180,11 @@ pub fn read_behind(
     source: &Source,
     at: &mut usize,
     left: u32,
-) -> Result<Found<Expr>, ParseErr> {
+) -> Result<Found<Expr>, ParseErr>
+    requires texts { All (IsSound source.now.text.now) source.now.tokens.now }
+    ensures ok { IfOk result (λ f. IsRead (Behind source.now.text.now start (drop at.old source.now.tokens.now)) left f.tree f.depth (drop at.new source.now.tokens.now)) }
+    ensures err { IfErr result (IsRefused source.now.tokens.now) }
+{
     take(source.tokens, at, start)?;
     Ok(read_parts(ListKind::Statements, alloc, source, at, left)?)
 }

@@ -1,4 +1,10 @@
-ghost use Rattle.std.specs.Prelude.{◌≡◌, ◌<◌, ◌-◌, ◌^◌};
+ghost use Rattle.std.specs.Prelude.{◌≡◌, ◌+◌, ◌-◌, ◌<◌, ◌≤◌, ◌≢◌, ◌^◌, ◌++◌, [], ◌∷◌, drop, max, Some, None, IfOk, IfErr};
+ghost use Rattle.ml_cursor.specs.declared.error.ParseErr.{ParseErr};
+ghost use Rattle.ml_cursor.specs.Fronts.{front};
+ghost use Rattle.ml_cursor.specs.Places.{span, first_span};
+ghost use Rattle.ml_cursor.specs.Says.{Says};
+ghost use Rattle.ml_parser.specs.Trees.{node};
+ghost use Rattle.ml_parser.specs.Refusals.{IsRefused};
 
 use ml_cursor::{Front, ParseErr, accept, pass, refusal_at, span_at, stands};
 use ml_lexer::Token;
@@ -15,7 +21,9 @@ pub struct Found<T> {
 }
 
 /// From the start of one span to the end of another.
-pub fn joined(first: Span, last: Span) -> Span {
+pub fn joined(first: Span, last: Span) -> Span
+    ensures { result ≡ span first.start last.end }
+{
     Span {
         start: first.start,
         end: last.end,
@@ -23,62 +31,33 @@ pub fn joined(first: Span, last: Span) -> Span {
 }
 
 /// The greater of two depths.
-pub fn deeper(one: u32, other: u32) -> u32 {
-    if one < other { other } else { one }
+pub fn deeper(one: u32, other: u32) -> u32
+    ensures { result ≡ max one other }
+{
+    one.max(other)
 }
 
 /// An expression over parts of this depth. Its number is given once the whole program is read.
-pub fn node(span: Span, kind: ExprKind, parts: u32) -> Found<Expr>
+pub fn node(place: Span, kind: ExprKind, parts: u32) -> Found<Expr>
     requires { parts < 2 ^ 32 - 1 }
+    ensures tree { result.tree ≡ node place.start place.end kind }
+    ensures depth { result.depth ≡ parts + 1 }
 {
     Found {
-        tree: Expr { id: 0, span, kind },
+        tree: Expr {
+            id: 0,
+            span: place,
+            kind,
+        },
         depth: parts + 1,
     }
 }
 
 /// The refusal of the token at a place.
-pub fn refuse(tokens: &[Token], at: usize) -> ParseErr {
+pub fn refuse(tokens: &[Token], at: usize) -> ParseErr
+    ensures { IsRefused tokens.now result }
+{
     ParseErr::Refused(refusal_at(tokens, at))
-}
-
-/// What was found, as a part of a node that may have the depth `left`.
-pub fn as_part<T: Drop>(
-    tokens: &[Token],
-    at: usize,
-    found: Found<T>,
-    left: u32,
-) -> Result<Found<T>, ParseErr> {
-    if found.depth >= left {
-        return Err(refuse(tokens, at));
-    }
-    Ok(found)
-}
-
-/// A list of nothing.
-pub fn no_parts<T>(alloc: Global) -> Found<Items<T>> {
-    Found {
-        tree: Items::new(alloc),
-        depth: 0,
-    }
-}
-
-/// A list of one.
-pub fn one_part<T: Drop>(alloc: Global, part: Found<T>) -> Result<Found<Items<T>>, ParseErr> {
-    Ok(with_part(no_parts(alloc), part)?)
-}
-
-/// The list with one more at its end.
-pub fn with_part<T: Drop>(
-    list: Found<Items<T>>,
-    part: Found<T>,
-) -> Result<Found<Items<T>>, ParseErr> {
-    let Found { mut tree, depth } = list;
-    tree.push(part.tree)?;
-    Ok(Found {
-        tree,
-        depth: deeper(depth, part.depth),
-    })
 }
 
 /// The first token of a form: its span, and the depth that the parts of the form may have.
@@ -88,10 +67,16 @@ pub struct Head {
     pub below: u32,
 }
 
-/// Goes past the first token of a form that may have the depth `left`.
-pub fn open_form(tokens: &[Token], at: &mut usize, left: u32) -> Result<Head, ParseErr> {
+/// Goes past the first token of a form that may have the depth `left`. Where that is none, the tree
+/// would be too deep, and the token is refused.
+pub fn open_form(tokens: &[Token], at: &mut usize, left: u32) -> Result<Head, ParseErr>
+    ensures span { IfOk result (λ head. head.span ≡ first_span (drop at.old tokens.now)) }
+    ensures below { IfOk result (λ head. head.below + 1 ≡ left) }
+    ensures passed { IfOk result (λ head. drop at.new tokens.now ≡ drop 1 (drop at.old tokens.now)) }
+    ensures err { IfErr result (Says tokens.now (left ≡ 0)) }
+{
     if left == 0 {
-        return Err(refuse(tokens, *at));
+        return Err(ParseErr::Refused(refusal_at(tokens, *at)));
     }
     let span = span_at(tokens, *at);
     pass(tokens, at);
@@ -101,15 +86,37 @@ pub fn open_form(tokens: &[Token], at: &mut usize, left: u32) -> Result<Head, Pa
     })
 }
 
+/// What was found, as a part of a node that may have the depth `left`.
+pub fn as_part<T: Drop>(
+    tokens: &[Token],
+    at: usize,
+    found: Found<T>,
+    left: u32,
+) -> Result<Found<T>, ParseErr>
+    ensures same { IfOk result (λ f. f ≡ found) }
+    ensures small { IfOk result (λ f. f.depth < left) }
+    ensures err { IfErr result (Says tokens.now (left ≤ found.depth)) }
+{
+    if found.depth >= left {
+        return Err(ParseErr::Refused(refusal_at(tokens, at)));
+    }
+    Ok(found)
+}
+
 /// What was found, where this token stands behind it, which is passed.
 pub fn closed_by<T: Drop>(
     tokens: &[Token],
     at: &mut usize,
     end: Front,
     found: Found<T>,
-) -> Result<Found<T>, ParseErr> {
+) -> Result<Found<T>, ParseErr>
+    ensures same { IfOk result (λ f. f ≡ found) }
+    ensures stands { IfOk result (λ f. front (drop at.old tokens.now) ≡ end) }
+    ensures passed { IfOk result (λ f. drop at.new tokens.now ≡ drop 1 (drop at.old tokens.now)) }
+    ensures err { IfErr result (Says tokens.now (front (drop at.old tokens.now) ≢ end)) }
+{
     if !accept(tokens, at, end) {
-        return Err(refuse(tokens, *at));
+        return Err(ParseErr::Refused(refusal_at(tokens, *at)));
     }
     Ok(found)
 }
@@ -120,9 +127,74 @@ pub fn before<T: Drop>(
     at: usize,
     end: Front,
     found: Found<T>,
-) -> Result<Found<T>, ParseErr> {
+) -> Result<Found<T>, ParseErr>
+    ensures same { IfOk result (λ f. f ≡ found) }
+    ensures stands { IfOk result (λ f. front (drop at tokens.now) ≡ end) }
+    ensures err { IfErr result (Says tokens.now (front (drop at tokens.now) ≢ end)) }
+{
     if !stands(tokens, at, end) {
-        return Err(refuse(tokens, at));
+        return Err(ParseErr::Refused(refusal_at(tokens, at)));
     }
     Ok(found)
+}
+
+/// A list of nothing.
+pub fn no_parts<T>(alloc: Global) -> Found<Items<T>>
+    ensures tree { result.tree ≡ [] }
+    ensures depth { result.depth ≡ 0 }
+{
+    Found {
+        tree: Items::new(alloc),
+        depth: 0,
+    }
+}
+
+/// The list with one more at its end.
+pub fn with_part<T: Drop>(
+    list: Found<Items<T>>,
+    part: Found<T>,
+) -> Result<Found<Items<T>>, ParseErr>
+    ensures tree { IfOk result (λ f. f.tree ≡ list.tree ++ part.tree ∷ []) }
+    ensures depth { IfOk result (λ f. f.depth ≡ max list.depth part.depth) }
+    ensures err { IfErr result (λ e. e ≡ ParseErr.NoMemory) }
+{
+    let Found { mut tree, depth } = list;
+    tree.push(part.tree)?;
+    Ok(Found {
+        tree,
+        depth: deeper(depth, part.depth),
+    })
+}
+
+/// Two things that stand one behind the other.
+pub fn pair<A, B>(first: Found<A>, second: Found<B>) -> Found<(A, B)>
+    ensures tree { result.tree ≡ (first.tree, second.tree) }
+    ensures depth { result.depth ≡ max first.depth second.depth }
+{
+    Found {
+        tree: (first.tree, second.tree),
+        depth: deeper(first.depth, second.depth),
+    }
+}
+
+/// What may be left out, and is there.
+pub fn just<T>(found: Found<T>) -> Found<Option<T>>
+    ensures tree { result.tree ≡ Some found.tree }
+    ensures depth { result.depth ≡ found.depth }
+{
+    Found {
+        tree: Some(found.tree),
+        depth: found.depth,
+    }
+}
+
+/// What may be left out, and is not there.
+pub fn nothing<T>() -> Found<Option<T>>
+    ensures tree { result.tree ≡ None }
+    ensures depth { result.depth ≡ 0 }
+{
+    Found {
+        tree: None,
+        depth: 0,
+    }
 }

@@ -1,12 +1,18 @@
 //! Atoms without parts.
-ghost use Rattle.std.specs.Prelude.{◌≡◌, ◌-◌, drop};
-ghost use Rattle.ml_parser.specs.Trees.{width, leaf_kind};
+ghost use Rattle.std.specs.Prelude.{◌≡◌, ◌-◌, drop, All, IfOk, IfErr};
+ghost use Rattle.ml_lexer.specs.Tokens.{IsSound};
+ghost use Rattle.ml_cursor.specs.Says.{Says};
+ghost use Rattle.ml_parser.specs.declared.looks.AtomLead.{AtomLead};
+ghost use Rattle.ml_parser.specs.Grammar.{AtomBy};
+ghost use Rattle.ml_parser.specs.Readings.{IsRead};
+ghost use Rattle.ml_parser.specs.Refusals.{IsRefused};
+ghost use Rattle.ml_parser.specs.Trees.{width, constant, leaf_kind};
 
-use crate::found::{Found, joined, node, open_form, refuse};
+use crate::found::{Found, joined, node, open_form};
 use crate::looks::Leaf;
 use crate::source::Source;
-use ml_cursor::{ParseErr, char_at, int_at, pass, span_at};
-use ml_lexer::{Token, text_bytes};
+use ml_cursor::{ParseErr, char_at, int_at, pass, refusal_at, span_at};
+use ml_lexer::{Token, TokenKind, text_bytes};
 use ml_tree::{ConName, Expr, ExprKind};
 use sqlite_items::at as token_at;
 use std::alloc::Global;
@@ -26,7 +32,9 @@ fn to_last(leaf: Leaf, tokens: &[Token], at: &mut usize)
 }
 
 /// A constructor without an argument.
-fn constant(name: ConName) -> ExprKind {
+fn constant(name: ConName) -> ExprKind
+    ensures { result ≡ constant name }
+{
     ExprKind::Con { name, arg: None }
 }
 
@@ -51,18 +59,21 @@ fn leaf_kind(leaf: Leaf, tokens: &[Token], at: usize, last: usize) -> ExprKind
 /// The leaf at this place.
 pub fn read_leaf(
     leaf: Leaf,
-    tokens: &[Token],
+    source: &Source,
     at: &mut usize,
     left: u32,
-) -> Result<Found<Expr>, ParseErr> {
+) -> Result<Found<Expr>, ParseErr>
+    ensures ok { IfOk result (λ f. IsRead (AtomBy source.now.text.now (AtomLead.Leaf leaf) (drop at.old source.now.tokens.now)) left f.tree f.depth (drop at.new source.now.tokens.now)) }
+    ensures err { IfErr result (Says source.now.tokens.now (left ≡ 0)) }
+{
     if left == 0 {
-        return Err(refuse(tokens, *at));
+        return Err(ParseErr::Refused(refusal_at(source.tokens, *at)));
     }
     let start = *at;
-    to_last(leaf, tokens, at);
-    let kind = leaf_kind(leaf, tokens, start, *at);
-    let span = joined(span_at(tokens, start), span_at(tokens, *at));
-    pass(tokens, at);
+    to_last(leaf, source.tokens, at);
+    let kind = leaf_kind(leaf, source.tokens, start, *at);
+    let span = joined(span_at(source.tokens, start), span_at(source.tokens, *at));
+    pass(source.tokens, at);
     Ok(node(span, kind, 0))
 }
 
@@ -72,9 +83,16 @@ pub fn read_text(
     source: &Source,
     at: &mut usize,
     left: u32,
-) -> Result<Found<Expr>, ParseErr> {
+) -> Result<Found<Expr>, ParseErr>
+    requires texts { All (IsSound source.now.text.now) source.now.tokens.now }
+    ensures ok { IfOk result (λ f. IsRead (AtomBy source.now.text.now AtomLead.Text (drop at.old source.now.tokens.now)) left f.tree f.depth (drop at.new source.now.tokens.now)) }
+    ensures err { IfErr result (IsRefused source.now.tokens.now) }
+{
     let Some(token) = token_at(source.tokens, *at) else {
-        return Err(refuse(source.tokens, *at));
+        return Err(ParseErr::Refused(refusal_at(source.tokens, *at)));
+    };
+    let TokenKind::Text = token.kind else {
+        return Err(ParseErr::Refused(refusal_at(source.tokens, *at)));
     };
     let head = open_form(source.tokens, at, left)?;
     match text_bytes(alloc, source.text, *token) {

@@ -1,4 +1,4 @@
-//! The parser: the tokens of a source as its syntax tree, by recursive descent.
+//! The parser: from the tokens of a source to its syntax tree, by recursive descent.
 #![tactic(auto)]
 
 mod arms;
@@ -16,6 +16,7 @@ mod looks;
 mod make;
 mod operand;
 mod operators;
+mod overwrite;
 mod parts;
 mod prelude;
 mod program;
@@ -26,8 +27,11 @@ mod target;
 #[cfg(test)]
 mod tests;
 
-pub use looks::{AtomLead, Joint, Lead, Leaf, ListKind, Suffix};
+pub use forms::Borrowed;
+pub use found::Found;
+pub use looks::{AtomLead, ItemLead, Joint, Lead, Leaf, ListKind, Suffix};
 pub use ml_cursor::ParseErr;
+pub use operators::Operator;
+pub use parts::Target;
 pub use prelude::PRELUDE;
 pub use program::parse;
-pub use operators::Operator;

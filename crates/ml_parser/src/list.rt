@@ -1,6 +1,11 @@
 //! Lists of expressions: sequences, tuples, elements of a list literal, arguments.
-ghost use Rattle.std.specs.Prelude.{◌≡◌, drop, if◌then◌else◌};
-ghost use Rattle.ml_parser.specs.Looks.{is_comma, is_semi, joins_operands, begins_statement, behind_statements, goes_on, next, behind};
+ghost use Rattle.std.specs.Prelude.{◌≡◌, drop, if◌then◌else◌, All, IfOk, IfErr};
+ghost use Rattle.ml_lexer.specs.Tokens.{IsSound};
+ghost use Rattle.ml_cursor.specs.Fronts.{front};
+ghost use Rattle.ml_parser.specs.Looks.{is_comma, joins_operands, begins_statement, behind_statements, goes_on, next, behind};
+ghost use Rattle.ml_parser.specs.Grammar.{exprs, Lists};
+ghost use Rattle.ml_parser.specs.Readings.{IsRead};
+ghost use Rattle.ml_parser.specs.Refusals.{IsRefused};
 
 use crate::begins::{begins_atom, begins_expression, second_at};
 use crate::expression::read_part;
@@ -33,6 +38,7 @@ fn joins_operands(front: Front) -> bool
 /// Goes past the `;` behind an expression, if it belongs to the sequence, and says whether another
 /// expression follows. A `;` with no expression behind it is the trailing one, but before an operator
 /// or a `,` it belongs to nothing: the form that it would end is open, and no left operand.
+#[tactic(auto, unfolding(crate::specs::Looks::begins_statement, crate::specs::Looks::behind_statements))]
 fn goes_on_statements(source: &Source, at: &mut usize) -> bool
     ensures goes { result ≡ begins_statement (drop at.old source.now.tokens.now) }
     ensures place { drop at.new source.now.tokens.now ≡ (if result then drop 1 (drop at.old source.now.tokens.now) else behind_statements (drop at.old source.now.tokens.now)) }
@@ -52,6 +58,7 @@ fn goes_on_statements(source: &Source, at: &mut usize) -> bool
 
 /// Goes past what stands between two parts of a list, and says whether another part follows. What
 /// belongs to the list behind its last part is passed too.
+#[tactic(auto, unfolding(crate::specs::Looks::goes_on, crate::specs::Looks::next, crate::specs::Looks::behind))]
 pub fn goes_on(kind: ListKind, source: &Source, at: &mut usize) -> bool
     ensures goes { result ≡ goes_on kind (drop at.old source.now.tokens.now) }
     ensures place { drop at.new source.now.tokens.now ≡ (if result then next kind (drop at.old source.now.tokens.now) else behind kind (drop at.old source.now.tokens.now)) }
@@ -71,7 +78,11 @@ pub fn read_list(
     source: &Source,
     at: &mut usize,
     left: u32,
-) -> Result<Found<Items<Expr>>, ParseErr> {
+) -> Result<Found<Items<Expr>>, ParseErr>
+    requires texts { All (IsSound source.now.text.now) source.now.tokens.now }
+    ensures ok { IfOk result (λ f. IsRead (Lists source.now.text.now (exprs kind) (drop at.old source.now.tokens.now)) left f.tree f.depth (drop at.new source.now.tokens.now)) }
+    ensures err { IfErr result (IsRefused source.now.tokens.now) }
+{
     let mut list = no_parts(alloc);
     'parts: loop {
         let part = read_part(kind, alloc, source, at, left)?;

@@ -1,19 +1,25 @@
 //! Operands: open forms, prefixes, and what begins with an atom.
+ghost use Rattle.std.specs.Prelude.{◌≡◌, drop, All, IfOk, IfErr};
+ghost use Rattle.ml_lexer.specs.Tokens.{IsSound};
+ghost use Rattle.ml_cursor.specs.Fronts.{front};
+ghost use Rattle.ml_parser.specs.declared.looks.Lead.{Lead};
+ghost use Rattle.ml_parser.specs.Looks.{lead, is_else};
+ghost use Rattle.ml_parser.specs.Grammar.{operators, Reads, OperandBy, ElseBy};
+ghost use Rattle.ml_parser.specs.Readings.{IsRead, Branches};
+ghost use Rattle.ml_parser.specs.Refusals.{IsRefused};
 
 use crate::arms::read_arms;
-use crate::bind::read_binds;
-use crate::expression::{read_behind, read_level, read_operators, read_parts, read_until};
-use crate::found::{Found, before, open_form, refuse};
-use crate::looks::{Lead, ListKind};
 use crate::begins::lead_at;
-use crate::brackets::close_paren;
-use crate::forms::{Branches, borrow, choice, fun, function, let_in, matching};
-use crate::make::{constructor, exclave, minus, overwrite, worded};
-use crate::operators::CONS_LEVEL;
-use crate::simple::read_simple;
+use crate::bind::read_binds;
+use crate::expression::{read_behind, read_parts, read_until};
+use crate::found::{Found, just, nothing, open_form, pair};
+use crate::forms::{borrow, choice, fun, function, let_in, matching};
+use crate::looks::{Lead, ListKind};
+use crate::make::{exclave, minus, worded};
+use crate::overwrite::{read_block, read_overwrite};
 use crate::source::Source;
 use crate::target::read_borrowed;
-use ml_cursor::{Front, ParseErr, accept, front_at, take};
+use ml_cursor::{Front, ParseErr, accept};
 use ml_parse_patterns::read_params;
 use ml_tree::{Expr, Words};
 use std::alloc::Global;
@@ -26,7 +32,11 @@ pub fn read_operand(
     source: &Source,
     at: &mut usize,
     left: u32,
-) -> Result<Found<Expr>, ParseErr> {
+) -> Result<Found<Expr>, ParseErr>
+    requires texts { All (IsSound source.now.text.now) source.now.tokens.now }
+    ensures ok { IfOk result (λ f. IsRead (Reads source.now.text.now (operators 0) (drop at.old source.now.tokens.now)) left f.tree f.depth (drop at.new source.now.tokens.now)) }
+    ensures err { IfErr result (IsRefused source.now.tokens.now) }
+{
     match lead_at(source.tokens, *at) {
         Lead::Let => Ok(read_let(alloc, source, at, left)?),
         Lead::Borrow => Ok(read_borrow(alloc, source, at, left)?),
@@ -50,7 +60,11 @@ fn read_let(
     source: &Source,
     at: &mut usize,
     left: u32,
-) -> Result<Found<Expr>, ParseErr> {
+) -> Result<Found<Expr>, ParseErr>
+    requires texts { All (IsSound source.now.text.now) source.now.tokens.now }
+    ensures ok { IfOk result (λ f. IsRead (OperandBy source.now.text.now Lead.Let (drop at.old source.now.tokens.now)) left f.tree f.depth (drop at.new source.now.tokens.now)) }
+    ensures err { IfErr result (IsRefused source.now.tokens.now) }
+{
     let head = open_form(source.tokens, at, left)?;
     let recursive = accept(source.tokens, at, Front::Rec);
     let binds = read_binds(alloc, source, at, head.below)?;
@@ -65,7 +79,12 @@ fn read_borrow(
     source: &Source,
     at: &mut usize,
     left: u32,
-) -> Result<Found<Expr>, ParseErr> {
+) -> Result<Found<Expr>, ParseErr>
+    requires borrows { lead (drop at.old source.now.tokens.now) ≡ Lead.Borrow }
+    requires texts { All (IsSound source.now.text.now) source.now.tokens.now }
+    ensures ok { IfOk result (λ f. IsRead (OperandBy source.now.text.now Lead.Borrow (drop at.old source.now.tokens.now)) left f.tree f.depth (drop at.new source.now.tokens.now)) }
+    ensures err { IfErr result (IsRefused source.now.tokens.now) }
+{
     let head = open_form(source.tokens, at, left)?;
     let names = read_borrowed(source.tokens, at)?;
     let body = read_behind(Front::In, alloc, source, at, head.below)?;
@@ -79,7 +98,11 @@ fn read_match(
     source: &Source,
     at: &mut usize,
     left: u32,
-) -> Result<Found<Expr>, ParseErr> {
+) -> Result<Found<Expr>, ParseErr>
+    requires texts { All (IsSound source.now.text.now) source.now.tokens.now }
+    ensures ok { IfOk result (λ f. IsRead (OperandBy source.now.text.now Lead.Match (drop at.old source.now.tokens.now)) left f.tree f.depth (drop at.new source.now.tokens.now)) }
+    ensures err { IfErr result (IsRefused source.now.tokens.now) }
+{
     let head = open_form(source.tokens, at, left)?;
     let scrutinee = read_until(Front::With, alloc, source, at, head.below)?;
     let arms = read_arms(alloc, source, at, head.below)?;
@@ -93,7 +116,11 @@ fn read_function(
     source: &Source,
     at: &mut usize,
     left: u32,
-) -> Result<Found<Expr>, ParseErr> {
+) -> Result<Found<Expr>, ParseErr>
+    requires texts { All (IsSound source.now.text.now) source.now.tokens.now }
+    ensures ok { IfOk result (λ f. IsRead (OperandBy source.now.text.now Lead.Function (drop at.old source.now.tokens.now)) left f.tree f.depth (drop at.new source.now.tokens.now)) }
+    ensures err { IfErr result (IsRefused source.now.tokens.now) }
+{
     let head = open_form(source.tokens, at, left)?;
     let arms = read_arms(alloc, source, at, head.below)?;
     Ok(function(head, arms))
@@ -106,7 +133,11 @@ fn read_fun(
     source: &Source,
     at: &mut usize,
     left: u32,
-) -> Result<Found<Expr>, ParseErr> {
+) -> Result<Found<Expr>, ParseErr>
+    requires texts { All (IsSound source.now.text.now) source.now.tokens.now }
+    ensures ok { IfOk result (λ f. IsRead (OperandBy source.now.text.now Lead.Fun (drop at.old source.now.tokens.now)) left f.tree f.depth (drop at.new source.now.tokens.now)) }
+    ensures err { IfErr result (IsRefused source.now.tokens.now) }
+{
     let head = open_form(source.tokens, at, left)?;
     let params = read_params(alloc, source.text, source.tokens, at, head.below)?;
     let body = read_behind(Front::Arrow, alloc, source, at, head.below)?;
@@ -120,7 +151,11 @@ fn read_if(
     source: &Source,
     at: &mut usize,
     left: u32,
-) -> Result<Found<Expr>, ParseErr> {
+) -> Result<Found<Expr>, ParseErr>
+    requires texts { All (IsSound source.now.text.now) source.now.tokens.now }
+    ensures ok { IfOk result (λ f. IsRead (OperandBy source.now.text.now Lead.If (drop at.old source.now.tokens.now)) left f.tree f.depth (drop at.new source.now.tokens.now)) }
+    ensures err { IfErr result (IsRefused source.now.tokens.now) }
+{
     let head = open_form(source.tokens, at, left)?;
     let condition = read_until(Front::Then, alloc, source, at, head.below)?;
     let branches = read_branches(alloc, source, at, head.below)?;
@@ -134,10 +169,14 @@ fn read_branches(
     source: &Source,
     at: &mut usize,
     left: u32,
-) -> Result<Branches, ParseErr> {
+) -> Result<Found<(Expr, Option<Expr>)>, ParseErr>
+    requires texts { All (IsSound source.now.text.now) source.now.tokens.now }
+    ensures ok { IfOk result (λ f. IsRead (Branches source.now.text.now (drop at.old source.now.tokens.now)) left f.tree f.depth (drop at.new source.now.tokens.now)) }
+    ensures err { IfErr result (IsRefused source.now.tokens.now) }
+{
     let then = read_parts(ListKind::Parts, alloc, source, at, left)?;
     let other = read_else(alloc, source, at, left)?;
-    Ok(Branches { then, other })
+    Ok(pair(then, other))
 }
 
 /// `[else expr]`
@@ -147,11 +186,15 @@ fn read_else(
     source: &Source,
     at: &mut usize,
     left: u32,
-) -> Result<Option<Found<Expr>>, ParseErr> {
+) -> Result<Found<Option<Expr>>, ParseErr>
+    requires texts { All (IsSound source.now.text.now) source.now.tokens.now }
+    ensures ok { IfOk result (λ f. IsRead (ElseBy source.now.text.now (is_else (front (drop at.old source.now.tokens.now))) (drop at.old source.now.tokens.now)) left f.tree f.depth (drop at.new source.now.tokens.now)) }
+    ensures err { IfErr result (IsRefused source.now.tokens.now) }
+{
     if !accept(source.tokens, at, Front::Else) {
-        return Ok(None);
+        return Ok(nothing());
     }
-    Ok(Some(read_parts(ListKind::Parts, alloc, source, at, left)?))
+    Ok(just(read_parts(ListKind::Parts, alloc, source, at, left)?))
 }
 
 /// `exclave_ seq`
@@ -161,7 +204,11 @@ fn read_exclave(
     source: &Source,
     at: &mut usize,
     left: u32,
-) -> Result<Found<Expr>, ParseErr> {
+) -> Result<Found<Expr>, ParseErr>
+    requires texts { All (IsSound source.now.text.now) source.now.tokens.now }
+    ensures ok { IfOk result (λ f. IsRead (OperandBy source.now.text.now Lead.Exclave (drop at.old source.now.tokens.now)) left f.tree f.depth (drop at.new source.now.tokens.now)) }
+    ensures err { IfErr result (IsRefused source.now.tokens.now) }
+{
     let head = open_form(source.tokens, at, left)?;
     let body = read_parts(ListKind::Statements, alloc, source, at, head.below)?;
     Ok(exclave(alloc, head, body)?)
@@ -174,7 +221,11 @@ fn read_minus(
     source: &Source,
     at: &mut usize,
     left: u32,
-) -> Result<Found<Expr>, ParseErr> {
+) -> Result<Found<Expr>, ParseErr>
+    requires texts { All (IsSound source.now.text.now) source.now.tokens.now }
+    ensures ok { IfOk result (λ f. IsRead (OperandBy source.now.text.now Lead.Minus (drop at.old source.now.tokens.now)) left f.tree f.depth (drop at.new source.now.tokens.now)) }
+    ensures err { IfErr result (IsRefused source.now.tokens.now) }
+{
     let head = open_form(source.tokens, at, left)?;
     let operand = read_operand(alloc, source, at, head.below)?;
     Ok(minus(alloc, head, operand)?)
@@ -188,66 +239,12 @@ fn read_worded(
     source: &Source,
     at: &mut usize,
     left: u32,
-) -> Result<Found<Expr>, ParseErr> {
+) -> Result<Found<Expr>, ParseErr>
+    requires texts { All (IsSound source.now.text.now) source.now.tokens.now }
+    ensures ok { IfOk result (λ f. IsRead (OperandBy source.now.text.now (Lead.Word words) (drop at.old source.now.tokens.now)) left f.tree f.depth (drop at.new source.now.tokens.now)) }
+    ensures err { IfErr result (IsRefused source.now.tokens.now) }
+{
     let head = open_form(source.tokens, at, left)?;
     let operand = read_operand(alloc, source, at, head.below)?;
     Ok(worded(alloc, words, head, operand)?)
-}
-
-/// `overwrite_ name with con`
-#[cycle(expressions)]
-fn read_overwrite(
-    alloc: Global,
-    source: &Source,
-    at: &mut usize,
-    left: u32,
-) -> Result<Found<Expr>, ParseErr> {
-    let head = open_form(source.tokens, at, left)?;
-    let name = take(source.tokens, at, Front::Lower)?;
-    take(source.tokens, at, Front::With)?;
-    let con = read_con(alloc, source, at, head.below)?;
-    Ok(overwrite(alloc, head, name, con)?)
-}
-
-/// `Name simple`, or `(expr)` with `::` on top.
-#[cycle(expressions)]
-fn read_con(
-    alloc: Global,
-    source: &Source,
-    at: &mut usize,
-    left: u32,
-) -> Result<Found<Expr>, ParseErr> {
-    match front_at(source.tokens, *at) {
-        Front::Upper => Ok(read_block(alloc, source, at, left)?),
-        Front::OpenParen => Ok(read_cell(alloc, source, at, left)?),
-        _ => Err(refuse(source.tokens, *at)),
-    }
-}
-
-/// `Name simple`
-#[cycle(expressions)]
-fn read_block(
-    alloc: Global,
-    source: &Source,
-    at: &mut usize,
-    left: u32,
-) -> Result<Found<Expr>, ParseErr> {
-    let head = open_form(source.tokens, at, left)?;
-    let arg = read_simple(alloc, source, at, head.below)?;
-    Ok(constructor(alloc, head, arg)?)
-}
-
-/// `(expr)` with `::` on top.
-#[cycle(expressions)]
-fn read_cell(
-    alloc: Global,
-    source: &Source,
-    at: &mut usize,
-    left: u32,
-) -> Result<Found<Expr>, ParseErr> {
-    let head = open_form(source.tokens, at, left)?;
-    let first = read_operators(CONS_LEVEL - 1, alloc, source, at, head.below)?;
-    let first = before(source.tokens, *at, Front::ColonColon, first)?;
-    let cell = read_level(CONS_LEVEL - 1, alloc, source, at, first, head.below)?;
-    Ok(close_paren(alloc, source.tokens, at, Front::CloseParen, head, cell)?)
 }

@@ -1,5 +1,6 @@
-ghost use Rattle.std.specs.Prelude.{◌≤◌, All, length};
+ghost use Rattle.std.specs.Prelude.{◌≤◌, All, length, IfErr};
 ghost use Rattle.ml_lexer.specs.Tokens.{IsSound};
+ghost use Rattle.ml_parser.specs.Refusals.{IsRefused};
 
 use crate::item::read_items;
 use crate::source::Source;
@@ -15,10 +16,10 @@ use std::alloc::Global;
 pub fn parse(alloc: Global, text: &[u8], tokens: &[Token]) -> Result<Program, ParseErr>
     requires texts { All (IsSound text.now) tokens.now }
     requires few { length tokens.now ≤ 1000000 }
+    ensures err { IfErr result (IsRefused tokens.now) }
 {
-    let lets = match closed_lets(alloc, tokens) {
-        Ok(lets) => lets,
-        Err(_) => return Err(ParseErr::NoMemory),
+    let Ok(lets) = closed_lets(alloc, tokens) else {
+        return Err(ParseErr::NoMemory);
     };
     let source = Source {
         text,
@@ -26,5 +27,8 @@ pub fn parse(alloc: Global, text: &[u8], tokens: &[Token]) -> Result<Program, Pa
         lets: lets.as_slice(),
     };
     let items = read_items(alloc, &source)?;
-    Ok(number(items))
+    match number(alloc, items.as_slice()) {
+        Ok(program) => Ok(program),
+        Err(_) => Err(ParseErr::NoMemory),
+    }
 }

@@ -1,7 +1,13 @@
 //! The fields of a record.
+ghost use Rattle.std.specs.Prelude.{◌≡◌, drop, if◌then◌else◌, All, IfOk, IfErr};
+ghost use Rattle.ml_lexer.specs.Tokens.{IsSound};
+ghost use Rattle.ml_parser.specs.Looks.{begins_field, behind_semi};
+ghost use Rattle.ml_parser.specs.Grammar.{fields, Lists, ItemBy};
+ghost use Rattle.ml_parser.specs.Readings.{IsRead};
+ghost use Rattle.ml_parser.specs.Refusals.{IsRefused};
 
 use crate::expression::read_parts;
-use crate::found::{Found, no_parts, refuse, with_part};
+use crate::found::{Found, no_parts, with_part};
 use crate::looks::ListKind;
 use crate::parts::{field, pun};
 use crate::source::Source;
@@ -12,7 +18,11 @@ use oxml_base::Items;
 use std::alloc::Global;
 
 /// Goes past the `;` behind a field, if there is one, and says whether a field follows.
-fn field_follows(tokens: &[Token], at: &mut usize) -> bool {
+#[tactic(auto, unfolding(crate::specs::Looks::begins_field, crate::specs::Looks::behind_semi))]
+fn field_follows(tokens: &[Token], at: &mut usize) -> bool
+    ensures goes { result ≡ begins_field (drop at.old tokens.now) }
+    ensures place { drop at.new tokens.now ≡ (if result then drop 1 (drop at.old tokens.now) else behind_semi (drop at.old tokens.now)) }
+{
     accept(tokens, at, Front::Semi) && stands(tokens, *at, Front::Lower)
 }
 
@@ -23,7 +33,11 @@ pub fn read_fields(
     source: &Source,
     at: &mut usize,
     left: u32,
-) -> Result<Found<Items<FieldExpr>>, ParseErr> {
+) -> Result<Found<Items<FieldExpr>>, ParseErr>
+    requires texts { All (IsSound source.now.text.now) source.now.tokens.now }
+    ensures ok { IfOk result (λ f. IsRead (Lists source.now.text.now fields (drop at.old source.now.tokens.now)) left f.tree f.depth (drop at.new source.now.tokens.now)) }
+    ensures err { IfErr result (IsRefused source.now.tokens.now) }
+{
     let mut list = no_parts(alloc);
     'fields: loop {
         let field = read_field(alloc, source, at, left)?;
@@ -41,7 +55,11 @@ fn read_field(
     source: &Source,
     at: &mut usize,
     left: u32,
-) -> Result<Found<FieldExpr>, ParseErr> {
+) -> Result<Found<FieldExpr>, ParseErr>
+    requires texts { All (IsSound source.now.text.now) source.now.tokens.now }
+    ensures ok { IfOk result (λ f. IsRead (ItemBy source.now.text.now fields (drop at.old source.now.tokens.now)) left f.tree f.depth (drop at.new source.now.tokens.now)) }
+    ensures err { IfErr result (IsRefused source.now.tokens.now) }
+{
     let name = take(source.tokens, at, Front::Lower)?;
     if !accept(source.tokens, at, Front::Equal) {
         return Ok(pun(source.tokens, *at, name, left)?);

@@ -1,13 +1,20 @@
 //! Atoms with what goes on behind them.
+ghost use Rattle.std.specs.Prelude.{◌≢◌, ◌<◌, ◌≤◌, drop, All, IfOk, IfErr};
+ghost use Rattle.ml_lexer.specs.Tokens.{IsSound};
+ghost use Rattle.ml_parser.specs.declared.looks.Suffix.{Suffix};
+ghost use Rattle.ml_parser.specs.Looks.{suffix};
+ghost use Rattle.ml_parser.specs.Grammar.{simple, Reads};
+ghost use Rattle.ml_parser.specs.Readings.{IsRead, OneSuffix};
+ghost use Rattle.ml_parser.specs.Refusals.{IsRefused};
 
 use crate::atom::read_atom;
+use crate::begins::suffix_at;
+use crate::brackets::{close_index, field_of};
 use crate::expression::read_parts;
 use crate::found::{Found, as_part};
 use crate::looks::{ListKind, Suffix};
-use crate::begins::suffix_at;
-use crate::brackets::{close_index, field_of};
 use crate::source::Source;
-use ml_cursor::{ParseErr, pass};
+use ml_cursor::{ParseErr, skip};
 use ml_tree::Expr;
 use std::alloc::Global;
 
@@ -18,9 +25,13 @@ pub fn read_simple(
     source: &Source,
     at: &mut usize,
     left: u32,
-) -> Result<Found<Expr>, ParseErr> {
+) -> Result<Found<Expr>, ParseErr>
+    requires texts { All (IsSound source.now.text.now) source.now.tokens.now }
+    ensures ok { IfOk result (λ f. IsRead (Reads source.now.text.now simple (drop at.old source.now.tokens.now)) left f.tree f.depth (drop at.new source.now.tokens.now)) }
+    ensures err { IfErr result (IsRefused source.now.tokens.now) }
+{
     let mut found = read_atom(alloc, source, at, left)?;
-    while suffix_at(source.tokens, *at) != Suffix::Nothing {
+    'suffixes: while suffix_at(source.tokens, *at) != Suffix::Nothing {
         found = read_suffix(alloc, source, at, found, left)?;
     }
     Ok(found)
@@ -34,11 +45,17 @@ fn read_suffix(
     at: &mut usize,
     found: Found<Expr>,
     left: u32,
-) -> Result<Found<Expr>, ParseErr> {
+) -> Result<Found<Expr>, ParseErr>
+    requires stands { suffix (drop at.old source.now.tokens.now) ≢ Suffix.Nothing }
+    requires small { found.depth ≤ left }
+    requires texts { All (IsSound source.now.text.now) source.now.tokens.now }
+    ensures ok { IfOk result (λ f. IsRead (OneSuffix source.now.text.now found.tree found.depth (suffix (drop at.old source.now.tokens.now)) (drop at.old source.now.tokens.now)) left f.tree f.depth (drop at.new source.now.tokens.now)) }
+    ensures err { IfErr result (IsRefused source.now.tokens.now) }
+{
     let found = as_part(source.tokens, *at, found, left)?;
     match suffix_at(source.tokens, *at) {
         Suffix::Field => Ok(field_of(alloc, source.tokens, at, found)?),
-        _ => Ok(read_index(alloc, source, at, found, left - 1)?),
+        _ => Ok(read_index(alloc, source, at, found, left)?),
     }
 }
 
@@ -50,9 +67,13 @@ fn read_index(
     at: &mut usize,
     found: Found<Expr>,
     left: u32,
-) -> Result<Found<Expr>, ParseErr> {
-    pass(source.tokens, at);
-    pass(source.tokens, at);
-    let place = read_parts(ListKind::Statements, alloc, source, at, left)?;
-    Ok(close_index(alloc, source.tokens, at, found, place)?)
+) -> Result<Found<Expr>, ParseErr>
+    requires small { found.depth < left }
+    requires texts { All (IsSound source.now.text.now) source.now.tokens.now }
+    ensures ok { IfOk result (λ f. IsRead (OneSuffix source.now.text.now found.tree found.depth Suffix.Index (drop at.old source.now.tokens.now)) left f.tree f.depth (drop at.new source.now.tokens.now)) }
+    ensures err { IfErr result (IsRefused source.now.tokens.now) }
+{
+    skip(source.tokens, at, 2);
+    let index = read_parts(ListKind::Statements, alloc, source, at, left - 1)?;
+    Ok(close_index(alloc, source.tokens, at, found, index)?)
 }
