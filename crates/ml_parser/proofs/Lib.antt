@@ -1,2 +1,4 @@
+mod Deep
+mod OpenForms
 mod Programs
 mod Unique

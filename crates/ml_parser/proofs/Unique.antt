@@ -18,9 +18,11 @@ use Rattle.ml_parser.specs.Looks.{suffix, second, operator_at, groups_left, goes
 use Rattle.ml_parser.specs.Trees.{node, start_of, end_of, end_behind, end_of_arm, end_of_branches, arm, bind, field, gathered, joined}
 use Rattle.ml_tree.specs.declared.pattern.ConName.TheVariants.{Named}
 use Rattle.ml_tree.specs.declared.expr.ExprKind.TheVariants as E
-use Rattle.ml_cursor.specs.Places.{first_span}
+use Rattle.ml_cursor.specs.Places.{first_span, Takes}
+use Rattle.oxml_base.specs.declared.span.Span.{Span}
+use Rattle.ml_cursor.specs.declared.front.Front.TheVariants.{CloseParen, CloseBracket, CloseBrace, Colon, End, Lower, Equal, With}
 use Rattle.ml_parser.specs.Stubs.{ReadsPattern, ReadsParams}
-use Rattle.ml_parser.specs.Grammar.{Part, tuple, seq, operators, arms, Kind, ItemOf, HasType, ResultBy, no_result, result, TargetBy, function_target, pattern_target, Reads, AtomBy, SuffixBy, ListedBy, LevelBy, OperandBy, ConBy, ElseBy, GuardBy, Lists, ItemBy, more, to_next, past, an_atom, a_simple, an_operand, a_level, a_list_of, a_leaf, a_text, a_paren, a_typed, a_begin, a_list, a_record, no_suffix, a_field, an_index, alone, several, no_operator, to_left, to_right, an_apply, a_constructor, a_minus, a_word, an_overwrite, a_let, a_borrow, a_match, a_function, a_fun, an_if, an_exclave, a_block, a_cell, no_else, an_else, no_guard, a_guard, the_last, one_more, an_expression, a_set_field, a_pun, an_arm, a_bind}
+use Rattle.ml_parser.specs.Grammar.{Borrows, borrows, Part, tuple, seq, operators, arms, Kind, ItemOf, HasType, ResultBy, no_result, result, TargetBy, function_target, pattern_target, Reads, AtomBy, SuffixBy, ListedBy, LevelBy, OperandBy, ConBy, ElseBy, GuardBy, Lists, ItemBy, more, to_next, past, an_atom, a_simple, an_operand, a_level, a_list_of, a_leaf, a_text, a_paren, a_typed, a_begin, a_list, a_record, no_suffix, a_field, an_index, alone, several, no_operator, to_left, to_right, an_apply, a_constructor, a_minus, a_word, an_overwrite, a_let, a_borrow, a_match, a_function, a_fun, an_if, an_exclave, a_block, a_cell, no_else, an_else, no_guard, a_guard, the_last, one_more, an_expression, a_set_field, a_pun, an_arm, a_bind}
 use Rattle.ml_parse_types.specs.Types.{Got}
 use Rattle.ml_parse_types.proofs.Unique.{same_type as one_type}
 use Rattle.ml_lexer.proofs.Unique.{one_literal}
@@ -32,11 +34,11 @@ pub record Same {A : Type 0} (x y : A) (d c : ℕ) (r s : List Token) : Type 0 w
   pub depth : c ≡ d
   pub rest : s ≡ r
 
-it : {A : Type 0} (x : A) (d : ℕ) (r : List Token) → Same x x d d r r
+pub it : {A : Type 0} (x : A) (d : ℕ) (r : List Token) → Same x x d d r r
 it x d r = record { tree = refl; depth = refl; rest = refl }
 
 -- what holds of the second reading holds of the first
-moved : {A : Type 0} {x y : A} {d c : ℕ} {r s : List Token} (P : A → ℕ → List Token → Type 0) → Same x y d c r s → P y c s → P x d r
+pub moved : {A : Type 0} {x y : A} {d c : ℕ} {r s : List Token} (P : A → ℕ → List Token → Type 0) → Same x y d c r s → P y c s → P x d r
 moved {A} {x} {y} {d} {c} {r} {s} P i h = subst (λ s'. P x d s') i.rest (subst (λ c'. P x c' s) i.depth (subst (λ y'. P y' c s) i.tree h))
 
 -- a part made of one part, of two, and of three
@@ -62,19 +64,19 @@ made4 {A} {B} {C} {D} {x1} {y1} {x2} {y2} {x3} {y3} {d1} {c1} {d2} {c2} {d3} {c3
   rest = l.rest;
 }
 
-same_literal : {text : List ℕ} {t : Token} {bs cs : List ℕ} → IsLiteral text t bs → IsLiteral text t cs → cs ≡ bs
+pub same_literal : {text : List ℕ} {t : Token} {bs cs : List ℕ} → IsLiteral text t bs → IsLiteral text t cs → cs ≡ bs
 same_literal {text} {t} {bs} {cs} a b = one_literal text t cs bs b a
 
-one_pattern : {text : List ℕ} {ts r s : List Token} {p q : Pat} {d c : ℕ} → ReadsPattern text ts p d r → ReadsPattern text ts q c s → Same p q d c r s
+pub one_pattern : {text : List ℕ} {ts r s : List Token} {p q : Pat} {d c : ℕ} → ReadsPattern text ts p d r → ReadsPattern text ts q c s → Same p q d c r s
 one_pattern x y = ?
 
-one_params : {text : List ℕ} {ts r s : List Token} {p q : List Param} {d c : ℕ} → ReadsParams text ts p d r → ReadsParams text ts q c s → Same p q d c r s
+pub one_params : {text : List ℕ} {ts r s : List Token} {p q : List Param} {d c : ℕ} → ReadsParams text ts p d r → ReadsParams text ts q c s → Same p q d c r s
 one_params x y = ?
 
-same_type : {ts r s : List Token} {t u : TyExpr} → HasType ts t r → HasType ts u s → Same t u 0 0 r s
+pub same_type : {ts r s : List Token} {t u : TyExpr} → HasType ts t r → HasType ts u s → Same t u 0 0 r s
 same_type x y = let e = one_type y x in record { tree = ap (λ (g : Got TyExpr). g.value) e; depth = refl; rest = ap (λ (g : Got TyExpr). g.rest) e }
 
-same_result : {b : Bool} {ts r s : List Token} {t u : Option TyExpr} → ResultBy b ts t r → ResultBy b ts u s → Same t u 0 0 r s
+pub same_result : {b : Bool} {ts r s : List Token} {t u : Option TyExpr} → ResultBy b ts t r → ResultBy b ts u s → Same t u 0 0 r s
 same_result no_result no_result = it _ _ _
 same_result (result x) (result y) = let i = same_type x y in record { tree = ap Some i.tree; depth = refl; rest = i.rest }
 
@@ -93,6 +95,23 @@ same_target (function_target x) (function_target y) =
 same_target (pattern_target x) (pattern_target y) =
     let i = one_pattern x y in
     record { pattern = i.tree; params = refl; depth = i.depth; depths = refl; rest = i.rest }
+
+same_takes : {want : Front} {ts r s : List Token} {x y : Span} → Takes want ts r x → Takes want ts s y → Same x y 0 0 r s
+same_takes p q = record { tree = q.span_is ∙ sym p.span_is; depth = refl; rest = q.rest_is ∙ sym p.rest_is }
+
+-- the names of a borrow
+pub record SameBorrows (y v x w : Span) (r s : List Token) : Type 0 where
+  pub name : v ≡ y
+  pub origin : w ≡ x
+  pub rest : s ≡ r
+
+pub same_borrows : {ts r s : List Token} {y v x w : Span} → Borrows ts y x r → Borrows ts v w s → SameBorrows y v x w r s
+same_borrows (borrows a b c d) (borrows {vs = vs'} {ws = ws'} {rest = r'} {y = y'} {e = e'} {x = x'} f g h k) =
+    let i = same_takes a f in
+    let j = same_takes b (subst (λ us. Takes Lower us vs' y') i.rest g) in
+    let l = same_takes c (subst (λ us. Takes Equal us ws' e') j.rest h) in
+    let m = same_takes d (subst (λ us. Takes Lower us r' x') l.rest k) in
+    record { name = j.tree; origin = m.tree; rest = m.rest }
 
 -- one token at one place is not two
 no_clash : {us vs : List Token} {a b : Front} (P : Type 0) → vs ≡ us → front us ≡ a → front vs ≡ b → (a ≡ b → ⊥) → P
@@ -115,21 +134,39 @@ mutual
   same_atom : {text : List ℕ} {l : AtomLead} {ts r s : List Token} {e f : Expr} {d c : ℕ} → AtomBy text l ts e d r → AtomBy text l ts f c s → Same e f d c r s
   same_atom a_leaf a_leaf = it _ _ _
   same_atom {text = text} (a_text {t = t} x) (a_text y) = record { tree = ap (λ bs. node t.span.start t.span.end (E.Text (record { bytes = bs }))) (same_literal x y); depth = refl; rest = refl }
-  same_atom {text = text} {ts = ts} (a_paren x p) (a_paren y q) = made (λ e us. node (first_span ts).start (first_span us).end (E.Paren e)) (λ d. d + 1) (drop 1) (same x y)
-  same_atom {text = text} (a_paren x p) (a_typed y q z w) = no_clash _ (same x y).rest p q (λ h. cc)
-  same_atom {text = text} (a_typed x p z w) (a_paren y q) = no_clash _ (same x y).rest p q (λ h. cc)
-  same_atom {text = text} {ts = ts} (a_typed x p t w) (a_typed {vs = vs'} {t = t'} y q u v) =
+  same_atom {ts = ts} (a_paren x p) (a_paren {rest = r'} {s = s'} y q) =
       let i = same x y in
-      made3 (λ e us t vs. node (first_span ts).start (first_span vs).end (E.Typed e t)) (λ d. d + 1) (drop 1) i (same_type t (subst (λ us. HasType (drop 1 us) t' vs') i.rest u))
-  same_atom {text = text} {ts = ts} (a_begin x p) (a_begin y q) = made (λ e us. node (first_span ts).start (first_span us).end (E.Paren e)) (λ d. d + 1) (drop 1) (same x y)
-  same_atom {text = text} {ts = ts} (a_list x p) (a_list y q) = made (λ es us. node (first_span ts).start (first_span us).end (E.List es)) (λ d. d + 1) (drop 1) (same_list x y)
-  same_atom {text = text} {ts = ts} (a_record x p) (a_record y q) = made (λ fs us. node (first_span ts).start (first_span us).end (E.Fields fs)) (λ d. d + 1) (drop 1) (same_list x y)
+      made3 (λ e us s vs. node (first_span ts).start s.end (E.Paren e)) (λ d. d + 1) (λ r. r) i (same_takes p (subst (λ us. Takes CloseParen us r' s') i.rest q))
+  same_atom (a_paren x p) (a_typed y q z w) = no_clash _ (same x y).rest p.stands q.stands (λ h. cc)
+  same_atom (a_typed x p z w) (a_paren y q) = no_clash _ (same x y).rest p.stands q.stands (λ h. cc)
+  same_atom {ts = ts} (a_typed {d = d} x p t w) (a_typed {vs = vs'} {ws = ws'} {rest = r'} {d = d'} {t = t'} {c = c'} {s = s'} y q u v) =
+      let i = same x y in
+      let j = same_takes p (subst (λ us. Takes Colon us vs' c') i.rest q) in
+      let k = same_type t (subst (λ us. HasType us t' ws') j.rest u) in
+      let l = same_takes w (subst (λ us. Takes CloseParen us r' s') k.rest v) in
+      let e = made4 {d1 = d} {c1 = d'} (λ e t s. node (first_span ts).start s.end (E.Typed e t)) (λ a b c. a + 1) i k l in
+      e
+  same_atom {ts = ts} (a_begin x p) (a_begin {rest = r'} {s = s'} y q) =
+      let i = same x y in
+      made3 (λ e us s vs. node (first_span ts).start s.end (E.Paren e)) (λ d. d + 1) (λ r. r) i (same_takes p (subst (λ us. Takes End us r' s') i.rest q))
+  same_atom {ts = ts} (a_list x p) (a_list {rest = r'} {s = s'} y q) =
+      let i = same_list x y in
+      made3 (λ es us s vs. node (first_span ts).start s.end (E.List es)) (λ d. d + 1) (λ r. r) i (same_takes p (subst (λ us. Takes CloseBracket us r' s') i.rest q))
+  same_atom {ts = ts} (a_record x p) (a_record {rest = r'} {s = s'} y q) =
+      let i = same_list x y in
+      made3 (λ fs us s vs. node (first_span ts).start s.end (E.Fields fs)) (λ d. d + 1) (λ r. r) i (same_takes p (subst (λ us. Takes CloseBrace us r' s') i.rest q))
 
   same_suffix : {text : List ℕ} {l : Suffix} {ts r s : List Token} {a e f : Expr} {da d c : ℕ} → SuffixBy text l ts a da e d r → SuffixBy text l ts a da f c s → Same e f d c r s
   same_suffix no_suffix no_suffix = it _ _ _
-  same_suffix {text = text} (a_field x) (a_field y) = same_suffix x y
-  same_suffix {text = text} (an_index {a = a} {da = da} i p x) (an_index {rest = s} {e = f} {d = c} j q y) =
-      same_suffix x (moved (λ b db vs. SuffixBy text (suffix (drop 1 vs)) (drop 1 vs) (node (start_of a) (first_span vs).end (E.Index a b)) (max da db + 1) f c s) (same i j) y)
+  same_suffix {text = text} (a_field {a = a} {da = da} p q x) (a_field {vs = vs'} {ws = ws'} {rest = s} {e = f} {d = c} {s = s'} {name = name'} p2 q2 y) =
+      let i = same_takes p p2 in
+      let j = same_takes q (subst (λ us. Takes Lower us ws' name') i.rest q2) in
+      same_suffix x (moved (λ name z ws. SuffixBy text (suffix ws) ws (node (start_of a) name.end (E.Field a name)) (da + 1) f c s) j y)
+  same_suffix {text = text} (an_index {a = a} {i = i0} {da = da} {di = di0} i p x) (an_index {ws = ws'} {rest = s} {i = i'} {e = f} {di = di'} {d = c} {s = s'} j q y) =
+      let k = same i j in
+      let l = same_takes p (subst (λ us. Takes CloseBracket us ws' s') k.rest q) in
+      let z = moved (λ b db vs. SuffixBy text (suffix ws') ws' (node (start_of a) s'.end (E.Index a b)) (max da db + 1) f c s) k y in
+      same_suffix x (moved (λ sp n ws. SuffixBy text (suffix ws) ws (node (start_of a) sp.end (E.Index a i0)) (max da di0 + 1) f c s) l z)
 
   same_listed : {text : List ℕ} {q : ListKind} {b : Bool} {ts r s : List Token} {a e f : Expr} {da d c : ℕ} → ListedBy text q b ts a da e d r → ListedBy text q b ts a da f c s → Same e f d c r s
   same_listed alone alone = it _ _ _
@@ -146,12 +183,22 @@ mutual
   same_operand (a_constructor x) (a_constructor y) = same_con x y
   same_operand {text = text} {ts = ts} (a_minus x) (a_minus y) = made (λ a us. node (first_span ts).start (end_of a) (E.Minus a)) (λ d. d + 1) (λ r. r) (same x y)
   same_operand {text = text} {ts = ts} (a_word {w = w} x) (a_word y) = made (λ a us. node (first_span ts).start (end_of a) (E.Worded w a)) (λ d. d + 1) (λ r. r) (same x y)
-  same_operand {ts = ts} (an_overwrite p1 p2 x) (an_overwrite q1 q2 y) =
-      made (λ e us. node (first_span ts).start (end_of e) (E.Overwrite (first_span (drop 1 ts)) e)) (λ d. d + 1) (λ r. r) (same_con x y)
+  same_operand {text = text} {ts = ts} (an_overwrite p1 p2 x) (an_overwrite {us = us'} {vs = vs'} {rest = s} {e = f} {d = c} {s = s'} q1 q2 y) =
+      let i = same_takes p1 q1 in
+      let j = same_takes p2 (subst (λ us. Takes With us vs' s') i.rest q2) in
+      let k = same_con x (subst (λ vs. ConBy text (front vs) vs f c s) j.rest y) in
+      made4 (λ name z e. node (first_span ts).start (end_of e) (E.Overwrite name e)) (λ a b c. c + 1) i j k
   same_operand {text = text} {ts = ts} (a_let x p z) (a_let {rest = s} {b = b'} {d = c} y q w) =
       let i = same_list x y in
       made2 (λ bs us b vs. node (first_span ts).start (end_of b) (E.Let (is_rec (second ts)) bs b)) (λ d c. max d c + 1) (λ r. r) i (same z (subst (λ us. Reads text seq (drop 1 us) b' c s) i.rest w))
-  same_operand {text = text} {ts = ts} (a_borrow p1 p2 p3 p4 x) (a_borrow q1 q2 q3 q4 y) = made (λ b us. node (first_span ts).start (end_of b) (E.Borrow (first_span (drop 2 ts)) (first_span (drop 4 ts)) b)) (λ d. d + 1) (λ r. r) (same x y)
+  same_operand {text = text} {ts = ts} (a_borrow {y = y} {x = x0} n p x) (a_borrow {rest = s} {y = y'} {x = x'} {b = b'} {d = c} m q z) =
+      let i = same_borrows n m in
+      let j = same x (subst (λ us. Reads text seq (drop 1 us) b' c s) i.rest z) in
+      record {
+        tree = ap (λ w. node (first_span ts).start (end_of b') (E.Borrow w x' b')) i.name ∙ (ap (λ w. node (first_span ts).start (end_of b') (E.Borrow y w b')) i.origin ∙ ap (λ w. node (first_span ts).start (end_of w) (E.Borrow y x0 w)) j.tree);
+        depth = ap (λ w. w + 1) j.depth;
+        rest = j.rest;
+      }
   same_operand {text = text} {ts = ts} (a_match x p z) (a_match {rest = s} {cases = cs'} {d = c} y q w) =
       let i = same x y in
       made2 (λ a us cs vs. node (first_span ts).start (end_behind end_of_arm 0 cs) (E.Match a cs)) (λ d c. max d c + 1) (λ r. r) i (same_list z (subst (λ us. Lists text arms (behind_bar (drop 1 us)) cs' c s) i.rest w))
@@ -169,9 +216,11 @@ mutual
   pub same_con : {text : List ℕ} {f : Front} {ts r s : List Token} {x y : Expr} {d c : ℕ} → ConBy text f ts x d r → ConBy text f ts y c s → Same x y d c r s
   same_con {ts = ts} (a_block x) (a_block y) =
       made (λ a us. node (first_span ts).start (end_of a) (E.Con (Named (first_span ts)) (Some a))) (λ d. d + 1) (λ r. r) (same x y)
-  same_con {text = text} {ts = ts} (a_cell x p z p2) (a_cell {vs = vs'} {b = b'} {db = db'} y q w q2) =
+  same_con {text = text} {ts = ts} (a_cell x p z p2) (a_cell {vs = vs'} {rest = r'} {b = b'} {db = db'} {s = s'} y q w q2) =
       let i = same x y in
-      made2 (λ a us b vs. node (first_span ts).start (first_span vs).end (E.Paren (joined Pair a b))) (λ d c. max d c + 1 + 1) (drop 1) i (same z (subst (λ us. Reads text (operators 4) (drop 1 us) b' db' vs') i.rest w))
+      let j = same z (subst (λ us. Reads text (operators 4) (drop 1 us) b' db' vs') i.rest w) in
+      let k = same_takes p2 (subst (λ us. Takes CloseParen us r' s') j.rest q2) in
+      made4 (λ a b s. node (first_span ts).start s.end (E.Paren (joined Pair a b))) (λ a b c. max a b + 1 + 1) i j k
 
   pub same_else : {text : List ℕ} {b : Bool} {ts r s : List Token} {x y : Option Expr} {d c : ℕ} → ElseBy text b ts x d r → ElseBy text b ts y c s → Same x y d c r s
   same_else no_else no_else = it _ _ _

@@ -9,7 +9,8 @@ use Rattle.ml_lexer.specs.Tokens.{IsLiteral}
 use Rattle.ml_cursor.specs.declared.front.Front.{Front}
 use Rattle.ml_cursor.specs.declared.front.Front.TheVariants as F
 use Rattle.ml_cursor.specs.Fronts.{front}
-use Rattle.ml_cursor.specs.Places.{first_span}
+use Rattle.ml_cursor.specs.Places.{first_span, Takes}
+use Rattle.oxml_base.specs.declared.span.Span.{Span}
 use Rattle.ml_tree.specs.declared.pattern.Pat.{Pat}
 use Rattle.ml_tree.specs.declared.pattern.Param.{Param}
 use Rattle.ml_tree.specs.declared.types.TyExpr.{TyExpr}
@@ -31,7 +32,7 @@ use Rattle.ml_parser.specs.declared.looks.Joint.{Joint}
 use Rattle.ml_parser.specs.declared.looks.Joint.TheVariants.{Pair}
 use Rattle.ml_parser.specs.declared.looks.ListKind.{ListKind}
 use Rattle.ml_parser.specs.declared.looks.ListKind.TheVariants as Q
-use Rattle.ml_parser.specs.Looks.{second, third, atom_lead, suffix, lead, operator_at, groups_left, loosest, goes_on, next, behind, begins_field, behind_semi, is_bar, is_and, is_rec, is_else, is_colon, behind_bar, behind_rec, binds_function}
+use Rattle.ml_parser.specs.Looks.{second, atom_lead, suffix, lead, operator_at, groups_left, loosest, goes_on, next, behind, begins_field, behind_semi, is_bar, is_and, is_rec, is_else, is_colon, behind_bar, behind_rec, binds_function}
 use Rattle.ml_parser.specs.Trees.{node, start_of, end_of, arm, bind, field, end_behind, end_of_arm, end_of_branches, width, leaf, joined, gathered, name_pattern, pun}
 use Rattle.ml_parse_types.specs.declared.looks.Row.TheVariants.{Factors}
 use Rattle.ml_parse_types.specs.Types.{ReadsType, got}
@@ -110,6 +111,12 @@ pub data TargetBy (text : List ℕ) : Bool → List Token → Pat → ℕ → Li
   pattern_target : {ts rest : List Token} {p : Pat} {d : ℕ} →
       ReadsPattern text ts p d rest → TargetBy text false ts p d [] 0 rest
 
+-- `borrow_ y = x`
+pub data Borrows : List Token → Span → Span → List Token → Type 0 where
+  borrows : {ts us vs ws rest : List Token} {b y e x : Span} →
+      Takes F.Borrow ts us b → Takes F.Lower us vs y → Takes F.Equal vs ws e → Takes F.Lower ws rest x →
+      Borrows ts y x rest
+
 mutual
   pub data Reads (text : List ℕ) : Part → List Token → Expr → ℕ → List Token → Type 0 where
     an_atom : {ts rest : List Token} {e : Expr} {d : ℕ} →
@@ -131,34 +138,32 @@ mutual
     a_text : {t : Token} {rest : List Token} {bytes : List ℕ} →
         IsLiteral text t bytes →
         AtomBy text A.Text (t ∷ rest) (node t.span.start t.span.end (E.Text (record { bytes = bytes }))) 1 rest
-    a_paren : {ts us : List Token} {e : Expr} {d : ℕ} →
-        Reads text seq (drop 1 ts) e d us → front us ≡ F.CloseParen →
-        AtomBy text A.Paren ts (node (first_span ts).start (first_span us).end (E.Paren e)) (d + 1) (drop 1 us)
-    a_typed : {ts us vs : List Token} {e : Expr} {d : ℕ} {t : TyExpr} →
-        Reads text seq (drop 1 ts) e d us → front us ≡ F.Colon →
-        HasType (drop 1 us) t vs → front vs ≡ F.CloseParen →
-        AtomBy text A.Paren ts (node (first_span ts).start (first_span vs).end (E.Typed e t)) (d + 1) (drop 1 vs)
-    a_begin : {ts us : List Token} {e : Expr} {d : ℕ} →
-        Reads text seq (drop 1 ts) e d us → front us ≡ F.End →
-        AtomBy text A.Begin ts (node (first_span ts).start (first_span us).end (E.Paren e)) (d + 1) (drop 1 us)
-    a_list : {ts us : List Token} {es : List Expr} {d : ℕ} →
-        Lists text (exprs Q.Elements) (drop 1 ts) es d us → front us ≡ F.CloseBracket →
-        AtomBy text A.List ts (node (first_span ts).start (first_span us).end (E.List es)) (d + 1) (drop 1 us)
-    a_record : {ts us : List Token} {fs : List FieldExpr} {d : ℕ} →
-        Lists text fields (drop 1 ts) fs d us → front us ≡ F.CloseBrace →
-        AtomBy text A.Record ts (node (first_span ts).start (first_span us).end (E.Fields fs)) (d + 1) (drop 1 us)
+    a_paren : {ts us rest : List Token} {e : Expr} {d : ℕ} {s : Span} →
+        Reads text seq (drop 1 ts) e d us → Takes F.CloseParen us rest s →
+        AtomBy text A.Paren ts (node (first_span ts).start s.end (E.Paren e)) (d + 1) rest
+    a_typed : {ts us vs ws rest : List Token} {e : Expr} {d : ℕ} {t : TyExpr} {c s : Span} →
+        Reads text seq (drop 1 ts) e d us → Takes F.Colon us vs c → HasType vs t ws → Takes F.CloseParen ws rest s →
+        AtomBy text A.Paren ts (node (first_span ts).start s.end (E.Typed e t)) (d + 1) rest
+    a_begin : {ts us rest : List Token} {e : Expr} {d : ℕ} {s : Span} →
+        Reads text seq (drop 1 ts) e d us → Takes F.End us rest s →
+        AtomBy text A.Begin ts (node (first_span ts).start s.end (E.Paren e)) (d + 1) rest
+    a_list : {ts us rest : List Token} {es : List Expr} {d : ℕ} {s : Span} →
+        Lists text (exprs Q.Elements) (drop 1 ts) es d us → Takes F.CloseBracket us rest s →
+        AtomBy text A.List ts (node (first_span ts).start s.end (E.List es)) (d + 1) rest
+    a_record : {ts us rest : List Token} {fs : List FieldExpr} {d : ℕ} {s : Span} →
+        Lists text fields (drop 1 ts) fs d us → Takes F.CloseBrace us rest s →
+        AtomBy text A.Record ts (node (first_span ts).start s.end (E.Fields fs)) (d + 1) rest
 
   -- behind the expression `a` of depth `da`: its fields and indices
   pub data SuffixBy (text : List ℕ) : Suffix → List Token → Expr → ℕ → Expr → ℕ → List Token → Type 0 where
     no_suffix : {rest : List Token} {a : Expr} {da : ℕ} → SuffixBy text S.Nothing rest a da a da rest
-    a_field : {us rest : List Token} {a e : Expr} {da d : ℕ} →
-        SuffixBy text (suffix (drop 2 us)) (drop 2 us)
-            (node (start_of a) (first_span (drop 1 us)).end (E.Field a (first_span (drop 1 us)))) (da + 1) e d rest →
+    a_field : {us vs ws rest : List Token} {a e : Expr} {da d : ℕ} {s name : Span} →
+        Takes F.Dot us vs s → Takes F.Lower vs ws name →
+        SuffixBy text (suffix ws) ws (node (start_of a) name.end (E.Field a name)) (da + 1) e d rest →
         SuffixBy text S.Field us a da e d rest
-    an_index : {us vs rest : List Token} {a i e : Expr} {da di d : ℕ} →
-        Reads text seq (drop 2 us) i di vs → front vs ≡ F.CloseBracket →
-        SuffixBy text (suffix (drop 1 vs)) (drop 1 vs)
-            (node (start_of a) (first_span vs).end (E.Index a i)) (max da di + 1) e d rest →
+    an_index : {us vs ws rest : List Token} {a i e : Expr} {da di d : ℕ} {s : Span} →
+        Reads text seq (drop 1 (drop 1 us)) i di vs → Takes F.CloseBracket vs ws s →
+        SuffixBy text (suffix ws) ws (node (start_of a) s.end (E.Index a i)) (max da di + 1) e d rest →
         SuffixBy text S.Index us a da e d rest
 
   -- behind a first expression: the others of an application, a tuple or a sequence, if it goes on
@@ -192,22 +197,18 @@ mutual
         Reads text (operators zero) (drop 1 ts) a d rest →
         OperandBy text (O.Word w) ts (node (first_span ts).start (end_of a) (E.Worded w a)) (d + 1) rest
     -- `overwrite_ x with con`
-    an_overwrite : {ts rest : List Token} {e : Expr} {d : ℕ} →
-        second ts ≡ F.Lower → third ts ≡ F.With → ConBy text (front (drop 3 ts)) (drop 3 ts) e d rest →
-        OperandBy text O.Overwrite ts
-            (node (first_span ts).start (end_of e) (E.Overwrite (first_span (drop 1 ts)) e)) (d + 1) rest
+    an_overwrite : {ts us vs rest : List Token} {e : Expr} {d : ℕ} {name s : Span} →
+        Takes F.Lower (drop 1 ts) us name → Takes F.With us vs s → ConBy text (front vs) vs e d rest →
+        OperandBy text O.Overwrite ts (node (first_span ts).start (end_of e) (E.Overwrite name e)) (d + 1) rest
     a_let : {ts us rest : List Token} {bs : List Bind} {b : Expr} {dbs d : ℕ} →
         Lists text binds (behind_rec (drop 1 ts)) bs dbs us → front us ≡ F.In →
         Reads text seq (drop 1 us) b d rest →
         OperandBy text O.Let ts
             (node (first_span ts).start (end_of b) (E.Let (is_rec (second ts)) bs b)) (max dbs d + 1) rest
     -- `let borrow_ y = x in e`
-    a_borrow : {ts rest : List Token} {b : Expr} {d : ℕ} →
-        third ts ≡ F.Lower → front (drop 3 ts) ≡ F.Equal → front (drop 4 ts) ≡ F.Lower → front (drop 5 ts) ≡ F.In →
-        Reads text seq (drop 6 ts) b d rest →
-        OperandBy text O.Borrow ts
-            (node (first_span ts).start (end_of b) (E.Borrow (first_span (drop 2 ts)) (first_span (drop 4 ts)) b))
-            (d + 1) rest
+    a_borrow : {ts us rest : List Token} {y x : Span} {b : Expr} {d : ℕ} →
+        Borrows (drop 1 ts) y x us → front us ≡ F.In → Reads text seq (drop 1 us) b d rest →
+        OperandBy text O.Borrow ts (node (first_span ts).start (end_of b) (E.Borrow y x b)) (d + 1) rest
     a_match : {ts us rest : List Token} {a : Expr} {cases : List Arm} {da d : ℕ} →
         Reads text seq (drop 1 ts) a da us → front us ≡ F.With →
         Lists text arms (behind_bar (drop 1 us)) cases d rest →
@@ -235,11 +236,11 @@ mutual
     a_block : {ts rest : List Token} {a : Expr} {d : ℕ} →
         Reads text simple (drop 1 ts) a d rest →
         ConBy text F.Upper ts (node (first_span ts).start (end_of a) (E.Con (Named (first_span ts)) (Some a))) (d + 1) rest
-    a_cell : {ts us vs : List Token} {a b : Expr} {da db : ℕ} →
+    a_cell : {ts us vs rest : List Token} {a b : Expr} {da db : ℕ} {s : Span} →
         Reads text (operators 3) (drop 1 ts) a da us → front us ≡ F.ColonColon →
-        Reads text (operators 4) (drop 1 us) b db vs → front vs ≡ F.CloseParen →
+        Reads text (operators 4) (drop 1 us) b db vs → Takes F.CloseParen vs rest s →
         ConBy text F.OpenParen ts
-            (node (first_span ts).start (first_span vs).end (E.Paren (joined Pair a b))) (max da db + 1 + 1) (drop 1 vs)
+            (node (first_span ts).start s.end (E.Paren (joined Pair a b))) (max da db + 1 + 1) rest
 
   -- `[else e]`
   pub data ElseBy (text : List ℕ) : Bool → List Token → Option Expr → ℕ → List Token → Type 0 where

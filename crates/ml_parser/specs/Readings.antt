@@ -6,7 +6,8 @@ use Rattle.ml_lexer.specs.declared.token.Token.{Token}
 use Rattle.ml_cursor.specs.declared.front.Front.{Front}
 use Rattle.ml_cursor.specs.declared.front.Front.TheVariants as F
 use Rattle.ml_cursor.specs.Fronts.{front}
-use Rattle.ml_cursor.specs.Places.{first_span}
+use Rattle.ml_cursor.specs.Places.{Takes}
+use Rattle.oxml_base.specs.declared.span.Span.{Span}
 use Rattle.ml_tree.specs.declared.types.TyExpr.{TyExpr}
 use Rattle.ml_tree.specs.declared.expr.Expr.{Expr}
 use Rattle.ml_tree.specs.declared.expr.ExprKind.TheVariants as E
@@ -57,12 +58,12 @@ Levels text below a da ts e d rest =
 
 -- behind an atom, one field or index
 pub data OneSuffix (text : List ℕ) (a : Expr) (da : ℕ) : Suffix → List Token → Expr → ℕ → List Token → Type 0 where
-  one_field : {ts : List Token} →
-      OneSuffix text a da S.Field ts
-          (node (start_of a) (first_span (drop 1 ts)).end (E.Field a (first_span (drop 1 ts)))) (da + 1) (drop 2 ts)
-  one_index : {ts us : List Token} {i : Expr} {d : ℕ} →
-      Reads text seq (drop 2 ts) i d us → front us ≡ F.CloseBracket →
-      OneSuffix text a da S.Index ts (node (start_of a) (first_span us).end (E.Index a i)) (max da d + 1) (drop 1 us)
+  one_field : {ts us rest : List Token} {s name : Span} →
+      Takes F.Dot ts us s → Takes F.Lower us rest name →
+      OneSuffix text a da S.Field ts (node (start_of a) name.end (E.Field a name)) (da + 1) rest
+  one_index : {ts us rest : List Token} {i : Expr} {d : ℕ} {s : Span} →
+      Reads text seq (drop 1 (drop 1 ts)) i d us → Takes F.CloseBracket us rest s →
+      OneSuffix text a da S.Index ts (node (start_of a) s.end (E.Index a i)) (max da d + 1) rest
 
 -- `[: type] =`
 pub data Results : List Token → Option TyExpr → List Token → Type 0 where
