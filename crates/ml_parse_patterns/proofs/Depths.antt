@@ -26,7 +26,7 @@ simple_positive leaf = omega arith
 simple_positive (name a f) = omega arith
 simple_positive (quoted e a) = omega arith
 simple_positive (paren a f) = omega arith
-simple_positive (typed a f t k c) = omega arith
+simple_positive (typed a f t c) = omega arith
 simple_positive (bracket a) = omega arith
 simple_positive (brace a) = omega arith
 
@@ -53,4 +53,4 @@ field_positive (field l e a) = positive a
 pub param_positive : {text : List ℕ} {l : ParamLead} {ts r : List Token} {p : Param} {d : ℕ} → ReadsParamBy text l ts p d r → 1 ≤ d
 param_positive short = omega arith
 param_positive (parens w a f) = positive a
-param_positive (annotated w a f t k c) = omega arith
+param_positive (annotated w a f t c) = omega arith

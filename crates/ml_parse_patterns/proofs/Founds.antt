@@ -19,7 +19,6 @@ use Rattle.ml_parse_patterns.specs.declared.found.Found.{Found}
 use Rattle.ml_parse_patterns.specs.declared.found.FoundList.{FoundList}
 use Rattle.ml_parse_patterns.specs.declared.found.FoundFields.{FoundFields}
 use Rattle.ml_parse_patterns.specs.declared.found.Annotation.{Annotation}
-use Rattle.ml_parse_patterns.specs.Types.{ReadsType}
 use Rattle.ml_parse_patterns.specs.Looks.{node, lead, leaf_kind, applies}
 use Rattle.ml_parse_patterns.specs.Patterns.{ReadsNames, no_name, one_name, ReadsSimple, leaf, paren, typed, bracket, brace, Reads, simple, bare, applied, no_cons, cons, no_tuple, tuple, either, whole, ReadsOthers, no_other, one_other, ReadsList, ReadsFields}
 use Rattle.ml_parse_patterns.specs.Readings.{IsNode, IsFound, IsAnnotation, IsLonger, AreFields, HasOthers, HasNames}
@@ -47,7 +46,7 @@ paren_found text n ts hs us r p f e h b c g m =
 pub typed_found : (text : List ℕ) (n : ℕ) (tokens ts hs us r : List Token) (p f : Found) (a : Annotation) → lead ts ≡ Paren → hs ≡ drop 1 ts → IsFound text Pattern n hs us p → front us ≡ Front.Colon → IsAnnotation tokens us r a → IsNode ts r (Kind.Typed p.pat a.ty) (p.depth + 1) f → IsFound text Simple (n + 1) ts r f
 typed_found text n tokens ts hs us r p f a e h b c t m =
     let inner : Reads text Pattern (drop 1 ts) p.pat p.depth us = subst (λ (x : List Token). Reads text Pattern x p.pat p.depth us) h b.reads in
-    record { reads = made m t.rest_is (by_its_lead e (typed inner c t.reads t.small t.closes)); small = (let s = b.small in let o = m.depth_is in omega arith) }
+    record { reads = made m t.rest_is (by_its_lead e (typed inner c t.reads t.closes)); small = (let s = b.small in let o = m.depth_is in omega arith) }
 
 pub elements_found : (text : List ℕ) (n : ℕ) (ts hs r : List Token) (l : FoundList) (f : Found) → lead ts ≡ Bracket → hs ≡ drop 1 ts → IsLonger text Elements n hs r [] 0 l → IsNode ts r (Kind.List l.list) (l.depth + 1) f → IsFound text Simple (n + 1) ts r f
 elements_found text n ts hs r l f e h b m =

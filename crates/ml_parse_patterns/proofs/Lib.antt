@@ -1,4 +1,3 @@
-mod OneType
 mod Unique
 mod Places
 mod Depths

@@ -12,7 +12,8 @@ use Rattle.ml_parse_patterns.specs.declared.looks.Level.TheVariants.{Simple, Ope
 use Rattle.ml_parse_patterns.specs.declared.looks.Listing.{Listing}
 use Rattle.ml_parse_patterns.specs.declared.looks.Listing.TheVariants.{Components, Elements}
 use Rattle.ml_parse_patterns.specs.declared.found.Found.{Found}
-use Rattle.ml_parse_patterns.specs.Types.{ReadsType}
+use Rattle.ml_parse_types.specs.declared.looks.Row.TheVariants.{Factors}
+use Rattle.ml_parse_types.specs.Types.{got, ReadsType}
 use Rattle.ml_parse_patterns.specs.Looks.{lead, applies}
 use Rattle.ml_parse_patterns.specs.Patterns.{ReadsNames, no_name, one_name, ReadsSimple, leaf, name, quoted, paren, typed, bracket, brace, Reads, simple, bare, applied, no_cons, cons, no_tuple, tuple, either, whole, ReadsOthers, no_other, one_other, ReadsList, ReadsField, ReadsFields}
 use Rattle.ml_parse_patterns.specs.Readings.{IsFound, NoTree, IsNone, NoAnnotation, NoList, NoFields, NoOthers, NoNames}
@@ -38,22 +39,22 @@ none_at_all text n ts h = record { deep = λ p d r a. absurd (h.none p d r a) }
 -- in parentheses
 paren_deep : {text : List ℕ} {n : ℕ} {ts r : List Token} {p : Pat} {d : ℕ} → NoTree text Pattern n (drop 1 ts) → ReadsSimple text Paren ts p d r → n + 1 < d
 paren_deep h (paren a f) = let g = h.deep _ _ _ a in omega arith
-paren_deep h (typed a f t k c) = let g = h.deep _ _ _ a in omega arith
+paren_deep h (typed a f t c) = let g = h.deep _ _ _ a in omega arith
 
 pub parens_deep : (text : List ℕ) (n : ℕ) (ts : List Token) → lead ts ≡ Paren → NoTree text Pattern n (drop 1 ts) → NoTree text Simple (n + 1) ts
 parens_deep text n ts e h = record { deep = λ p d r a. paren_deep h (by_lead e a) }
 
 paren_other : {text : List ℕ} {ts us r : List Token} {p q : Pat} {d e : ℕ} → Reads text Pattern (drop 1 ts) q e us → front us ≢ Front.CloseParen → front us ≢ Front.Colon → ReadsSimple text Paren ts p d r → ⊥
 paren_other b n m (paren a f) = n (sym (ap front (same b a).rest) ∙ f)
-paren_other b n m (typed a f t k c) = m (sym (ap front (same b a).rest) ∙ f)
+paren_other b n m (typed a f t c) = m (sym (ap front (same b a).rest) ∙ f)
 
 pub parens_open : (text : List ℕ) (n k : ℕ) (ts us : List Token) (f : Found) → lead ts ≡ Paren → IsFound text Pattern k (drop 1 ts) us f → front us ≢ Front.CloseParen → front us ≢ Front.Colon → NoTree text Simple n ts
 parens_open text n k ts us f e b m o = record { deep = λ p d r a. absurd (paren_other b.reads m o (by_lead e a)) }
 
 paren_untyped : {text : List ℕ} {ts us r : List Token} {p q : Pat} {d e : ℕ} → Reads text Pattern (drop 1 ts) q e us → front us ≡ Front.Colon → NoAnnotation us → ReadsSimple text Paren ts p d r → ⊥
 paren_untyped b m n (paren a f) = (let h : Front.Colon ≡ Front.CloseParen = sym m ∙ sym (ap front (same b a).rest) ∙ f in cc)
-paren_untyped b m n (typed {t = t} {k = k} {vs = vs} a f c l g) =
-    n.none t k vs (subst (λ (r : List Token). ReadsType (drop 1 r) t k vs) (same b a).rest c) l g
+paren_untyped b m n (typed {t = t} {vs = vs} a f c g) =
+    n.none t vs (subst (λ (r : List Token). ReadsType Factors (drop 1 r) (got t vs)) (same b a).rest c) g
 
 pub parens_untyped : (text : List ℕ) (n k : ℕ) (ts us : List Token) (f : Found) → lead ts ≡ Paren → IsFound text Pattern k (drop 1 ts) us f → front us ≡ Front.Colon → NoAnnotation us → NoTree text Simple n ts
 parens_untyped text n k ts us f e b m o = record { deep = λ p d r a. absurd (paren_untyped b.reads m o (by_lead e a)) }

@@ -25,10 +25,11 @@ use Rattle.ml_parse_patterns.specs.declared.looks.After.TheVariants.{Goes, Stops
 use Rattle.ml_parse_patterns.specs.declared.looks.AfterField.{AfterField}
 use Rattle.ml_parse_patterns.specs.declared.looks.AfterField.TheVariants.{Next, Ends}
 use Rattle.ml_parse_patterns.specs.declared.looks.ParamLead.{ParamLead}
-use Rattle.ml_parse_patterns.specs.Types.{ReadsType, ReadsWords}
+use Rattle.ml_parse_types.specs.declared.looks.Row.TheVariants.{Factors}
+use Rattle.ml_parse_types.specs.Types.{Got, got, ReadsType, ReadsWords}
+use Rattle.ml_parse_types.proofs.Unique.{same_words, same_type}
 use Rattle.ml_parse_patterns.specs.Looks.{node, after, after_field, param_lead, is_param}
 use Rattle.ml_parse_patterns.specs.Patterns.{level_of, ReadsNames, no_name, one_name, ReadsSimple, leaf, name, quoted, paren, typed, bracket, brace, Reads, simple, bare, applied, no_cons, cons, no_tuple, tuple, either, whole, ReadsOthers, no_other, one_other, ReadsList, last_one, one_more, ReadsField, pun, field, ReadsFields, last_field, next_field, ReadsParamBy, short, parens, annotated, ReadsParam, ReadsParams, last_param, next_param}
-use Rattle.ml_parse_patterns.proofs.OneType.{one_type, one_words}
 
 -- a second reading gives what a first one gave
 pub record Same {A : Type 0} (x y : A) (d e : ℕ) (us vs : List Token) : Type 0 where
@@ -54,8 +55,15 @@ joined {x = x} {z = z} {s = s} m g a b = record {
   rest = b.rest;
 }
 
-same_type : {ts us vs : List Token} {t u : TyExpr} {d e : ℕ} → ReadsType ts t d us → ReadsType ts u e vs → Same t u d e us vs
-same_type a b = let s = one_type a b in record { tree = s.0; depth = s.1; rest = s.2 }
+one_words : {ts us vs : List Token} {w x : Words} → ReadsWords ts (got w us) → ReadsWords ts (got x vs) → (x ≡ w) × (vs ≡ us)
+one_words a b =
+    let e = same_words a b in
+    (sym (ap (λ (o : Got Words). o.value) e), sym (ap (λ (o : Got Words). o.rest) e))
+
+one_type : {ts us vs : List Token} {t u : TyExpr} → ReadsType Factors ts (got t us) → ReadsType Factors ts (got u vs) → Same t u 0 0 us vs
+one_type a b =
+    let e = same_type a b in
+    record { tree = sym (ap (λ (o : Got TyExpr). o.value) e); depth = refl; rest = sym (ap (λ (o : Got TyExpr). o.rest) e) }
 
 -- no reading goes two ways
 fronts_differ : {a b : Front} {P : Type 0} (us vs : List Token) → vs ≡ us → front us ≡ a → front vs ≡ b → (a ≡ b → ⊥) → P
@@ -112,11 +120,11 @@ mutual
       record { tree = ap (λ (x : List ℕ). node ts (drop 1 ts) (Kind.Text (record { bytes = x }))) bytes; depth = refl; rest = refl }
   same_simple {ts = ts} (paren a f) (paren b g) =
       again (λ (p : Pat) (r : List Token). node ts (drop 1 r) (Kind.Paren p)) (λ n. n + 1) (λ r. drop 1 r) (same a b)
-  same_simple (paren {us = us} a f) (typed {us = vs} b g t k c) = fronts_differ us vs (same a b).rest f g (λ h. cc)
-  same_simple (typed {us = us} a f t k c) (paren {us = vs} b g) = fronts_differ us vs (same a b).rest f g (λ h. cc)
-  same_simple {ts = ts} (typed a f t k c) (typed {t = u} {k = n} {vs = ws} b g v l m) =
+  same_simple (paren {us = us} a f) (typed {us = vs} b g t c) = fronts_differ us vs (same a b).rest f g (λ h. cc)
+  same_simple (typed {us = us} a f t c) (paren {us = vs} b g) = fronts_differ us vs (same a b).rest f g (λ h. cc)
+  same_simple {ts = ts} (typed a f t c) (typed {t = u} {vs = ws} b g v m) =
       let s = same a b in
-      let i = same_type t (subst (λ (r : List Token). ReadsType (drop 1 r) u n ws) s.rest v) in
+      let i = one_type t (subst (λ (r : List Token). ReadsType Factors (drop 1 r) (got u ws)) s.rest v) in
       let j = joined (λ (p : Pat) (x : TyExpr) (r : List Token). node ts (drop 1 r) (Kind.Typed p x)) (λ n m. n + 1) s i in
       record { tree = j.tree; depth = j.depth; rest = ap (λ r. drop 1 r) j.rest }
   same_simple {ts = ts} (bracket a) (bracket b) =
@@ -195,16 +203,16 @@ same_param {text = text} (parens w a f) (parens {p = q} {d = e} {vs = vs} x b g)
     let s = same a (subst (λ (r : List Token). Reads text Pattern r q e vs) i.1 b) in
     let j = again (λ (p : Pat) (r : List Token). p) (λ n. n) (λ r. drop 1 r) s in
     record { tree = ap₂ (λ (w : Words) (p : Pat). let m : Param = record { words = w; pat = p } in m) i.0 s.tree; depth = s.depth; rest = j.rest }
-same_param {text = text} (parens {vs = us} w a f) (annotated {p = q} {d = e} {vs = vs} x b g t k h) =
+same_param {text = text} (parens {vs = us} w a f) (annotated {p = q} {d = e} {vs = vs} x b g t h) =
     let i = one_words w x in
     fronts_differ us vs (same a (subst (λ (r : List Token). Reads text Pattern r q e vs) i.1 b)).rest f g (λ h. cc)
-same_param {text = text} (annotated {vs = us} w a f t k h) (parens {p = q} {d = e} {vs = vs} x b g) =
+same_param {text = text} (annotated {vs = us} w a f t h) (parens {p = q} {d = e} {vs = vs} x b g) =
     let i = one_words w x in
     fronts_differ us vs (same a (subst (λ (r : List Token). Reads text Pattern r q e vs) i.1 b)).rest f g (λ h. cc)
-same_param {text = text} (annotated {us = us} w a f t k h) (annotated {p = q} {t = u} {d = e} {k = n} {us = us'} {vs = vs} {xs = ws} x b g v l m) =
+same_param {text = text} (annotated {us = us} w a f t h) (annotated {p = q} {t = u} {d = e} {us = us'} {vs = vs} {xs = ws} x b g v m) =
     let i = one_words w x in
     let s = same a (subst (λ (r : List Token). Reads text Pattern r q e vs) i.1 b) in
-    let o = same_type t (subst (λ (r : List Token). ReadsType (drop 1 r) u n ws) s.rest v) in
+    let o = one_type t (subst (λ (r : List Token). ReadsType Factors (drop 1 r) (got u ws)) s.rest v) in
     let j = joined (λ (p : Pat) (x : TyExpr) (r : List Token). node us r (Kind.Typed p x)) (λ n m. n + 1) s o in
     let moves : node us' ws (Kind.Typed q u) ≡ node us ws (Kind.Typed q u) = ap (λ (r : List Token). node r ws (Kind.Typed q u)) i.1 in
     record { tree = ap₂ (λ (w : Words) (p : Pat). let m : Param = record { words = w; pat = p } in m) i.0 (moves ∙ j.tree); depth = j.depth; rest = ap (λ r. drop 1 r) o.rest }

@@ -1,4 +1,3 @@
-pub mod Types
 pub mod Looks
 pub mod Patterns
 pub mod Readings

@@ -6,10 +6,10 @@ use Rattle.ml_tree.specs.declared.pattern.ConName.TheVariants as Name
 use Rattle.ml_tree.specs.declared.pattern.Pat.{Pat}
 use Rattle.ml_tree.specs.declared.pattern.PatKind.{PatKind}
 use Rattle.ml_tree.specs.declared.pattern.PatKind.TheVariants as Kind
-use Rattle.ml_tree.specs.declared.words.Words.{Words}
 use Rattle.ml_cursor.specs.declared.front.Front.{Front}
 use Rattle.ml_cursor.specs.declared.front.Front.TheVariants as Front
 use Rattle.ml_cursor.specs.Fronts.{front}
+use Rattle.ml_parse_types.specs.Looks.{no_words}
 use Rattle.ml_cursor.specs.Places.{first_span, extent, int_value, char_value}
 use Rattle.ml_parse_patterns.specs.declared.looks.Leaf.{Leaf}
 use Rattle.ml_parse_patterns.specs.declared.looks.Leaf.TheVariants.{Any, Bound, Int, Char, Con}
@@ -27,9 +27,6 @@ use Rattle.ml_parse_patterns.specs.declared.looks.ParamLead.TheVariants.{NoParam
 -- a node of the tokens from one list on up to another, its number not given yet
 abbrev pub node : List Token → List Token → PatKind → Pat
 node ts rest kind = record { id = 0; span = extent ts rest; kind = kind }
-
-abbrev pub no_words : Words
-no_words = record { loc = None; uni = None; aff = None }
 
 -- the negation of a number of 63 bits, in which the least number is its own negation
 abbrev pub negated : ℤ → ℤ

@@ -1,6 +1,6 @@
 -- The patterns and parameters of the grammar (OCaml manual, patterns): each relation says that the
 -- longest such part at the front of some tokens is this tree, of this depth, and which tokens follow.
-use Rattle.std.specs.Prelude.{◌≡◌, ◌≢◌, ℕ, ◌+◌, ◌≤◌, max, Bool, true, false, List, [], ◌∷◌, drop, slice_get, Option, Some, None}
+use Rattle.std.specs.Prelude.{◌≡◌, ◌≢◌, ℕ, ◌+◌, max, Bool, true, false, List, [], ◌∷◌, drop, slice_get, Option, Some, None}
 use Rattle.ml_lexer.specs.declared.token.Token.{Token}
 use Rattle.ml_lexer.specs.Tokens.{IsLiteral}
 use Rattle.ml_tree.specs.declared.pattern.ConName.TheVariants.{Named}
@@ -13,7 +13,9 @@ use Rattle.ml_tree.specs.declared.words.Words.{Words}
 use Rattle.ml_cursor.specs.declared.front.Front.TheVariants as Front
 use Rattle.ml_cursor.specs.Fronts.{front}
 use Rattle.ml_cursor.specs.Places.{first_span}
-use Rattle.ml_parse_patterns.specs.Types.{ReadsType, ReadsWords}
+use Rattle.ml_parse_types.specs.declared.looks.Row.TheVariants.{Factors}
+use Rattle.ml_parse_types.specs.Types.{got, ReadsType, ReadsWords}
+use Rattle.ml_parse_types.specs.Looks.{no_words}
 use Rattle.ml_parse_patterns.specs.declared.looks.Leaf.{Leaf}
 use Rattle.ml_parse_patterns.specs.declared.looks.Leaf.TheVariants.{Bound}
 use Rattle.ml_parse_patterns.specs.declared.looks.Lead.{Lead}
@@ -26,7 +28,7 @@ use Rattle.ml_parse_patterns.specs.declared.looks.After.TheVariants.{Goes, Stops
 use Rattle.ml_parse_patterns.specs.declared.looks.AfterField.TheVariants.{Next, Ends}
 use Rattle.ml_parse_patterns.specs.declared.looks.ParamLead.{ParamLead}
 use Rattle.ml_parse_patterns.specs.declared.looks.ParamLead.TheVariants.{Short, Parens}
-use Rattle.ml_parse_patterns.specs.Looks.{node, no_words, leaf_kind, lead, applies, after, after_field, param_lead, is_param}
+use Rattle.ml_parse_patterns.specs.Looks.{node, leaf_kind, lead, applies, after, after_field, param_lead, is_param}
 
 -- the level of what a list holds
 abbrev pub level_of : Listing → Level
@@ -47,7 +49,7 @@ mutual
     leaf : {l : Leaf} {n : ℕ} {ts : List Token} →
         ReadsSimple text (Whole l n) ts (node ts (drop n ts) (leaf_kind l)) 1 (drop n ts)
     name : {w : Words} {ts us : List Token} →
-        ReadsWords ts w us → front us ≡ Front.Lower →
+        ReadsWords ts (got w us) → front us ≡ Front.Lower →
         ReadsSimple text Name ts (node ts (drop 1 us) (Kind.Name w (first_span us))) 1 (drop 1 us)
     quoted : {t : Token} {bytes : List ℕ} {ts : List Token} →
         slice_get ts 0 ≡ Some t → IsLiteral text t bytes →
@@ -55,9 +57,9 @@ mutual
     paren : {p : Pat} {d : ℕ} {ts us : List Token} →
         Reads text Pattern (drop 1 ts) p d us → front us ≡ Front.CloseParen →
         ReadsSimple text Paren ts (node ts (drop 1 us) (Kind.Paren p)) (d + 1) (drop 1 us)
-    typed : {p : Pat} {t : TyExpr} {d k : ℕ} {ts us vs : List Token} →
+    typed : {p : Pat} {t : TyExpr} {d : ℕ} {ts us vs : List Token} →
         Reads text Pattern (drop 1 ts) p d us → front us ≡ Front.Colon →
-        ReadsType (drop 1 us) t k vs → k ≤ 1000 → front vs ≡ Front.CloseParen →
+        ReadsType Factors (drop 1 us) (got t vs) → front vs ≡ Front.CloseParen →
         ReadsSimple text Paren ts (node ts (drop 1 vs) (Kind.Typed p t)) (d + 1) (drop 1 vs)
     bracket : {ps : List Pat} {d : ℕ} {ts us : List Token} →
         ReadsList text Elements (drop 1 ts) ps d us →
@@ -129,11 +131,11 @@ pub data ReadsParamBy (text : List ℕ) : ParamLead → List Token → Param →
   short : {l : Leaf} {n : ℕ} {ts : List Token} →
       ReadsParamBy text (Short l n) ts (record { words = no_words; pat = node ts (drop n ts) (leaf_kind l) }) 1 (drop n ts)
   parens : {w : Words} {p : Pat} {d : ℕ} {ts us vs : List Token} →
-      ReadsWords (drop 1 ts) w us → Reads text Pattern us p d vs → front vs ≡ Front.CloseParen →
+      ReadsWords (drop 1 ts) (got w us) → Reads text Pattern us p d vs → front vs ≡ Front.CloseParen →
       ReadsParamBy text Parens ts (record { words = w; pat = p }) d (drop 1 vs)
-  annotated : {w : Words} {p : Pat} {t : TyExpr} {d k : ℕ} {ts us vs xs : List Token} →
-      ReadsWords (drop 1 ts) w us → Reads text Pattern us p d vs → front vs ≡ Front.Colon →
-      ReadsType (drop 1 vs) t k xs → k ≤ 1000 → front xs ≡ Front.CloseParen →
+  annotated : {w : Words} {p : Pat} {t : TyExpr} {d : ℕ} {ts us vs xs : List Token} →
+      ReadsWords (drop 1 ts) (got w us) → Reads text Pattern us p d vs → front vs ≡ Front.Colon →
+      ReadsType Factors (drop 1 vs) (got t xs) → front xs ≡ Front.CloseParen →
       ReadsParamBy text Parens ts (record { words = w; pat = node us xs (Kind.Typed p t) }) (d + 1) (drop 1 xs)
 
 abbrev pub ReadsParam : List ℕ → List Token → Param → ℕ → List Token → Type 0

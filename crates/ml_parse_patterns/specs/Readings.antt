@@ -20,7 +20,8 @@ use Rattle.ml_cursor.specs.declared.front.Front.TheVariants.{CloseParen, Lower}
 use Rattle.ml_cursor.specs.Fronts.{front}
 use Rattle.ml_cursor.specs.Places.{first_span}
 use Rattle.ml_parse_patterns.specs.declared.found.Annotation.{Annotation}
-use Rattle.ml_parse_patterns.specs.Types.{ReadsType}
+use Rattle.ml_parse_types.specs.declared.looks.Row.TheVariants.{Factors}
+use Rattle.ml_parse_types.specs.Types.{got, ReadsType}
 use Rattle.ml_parse_patterns.specs.Looks.{node}
 use Rattle.ml_parse_patterns.specs.Patterns.{Reads, ReadsOthers, ReadsNames, ReadsList, ReadsField, ReadsFields, ReadsParam, ReadsParams}
 
@@ -31,14 +32,12 @@ pub record IsNode (ts rest : List Token) (kind : PatKind) (depth : ℕ) (f : Fou
 
 -- the `:`, the type and the `)` behind a pattern
 pub record IsAnnotation (tokens ts rest : List Token) (a : Annotation) : Type 0 where
-  pub depth : ℕ
-  pub reads : ReadsType (drop 1 ts) a.ty depth (drop a.end tokens)
-  pub small : depth ≤ 1000
+  pub reads : ReadsType Factors (drop 1 ts) (got a.ty (drop a.end tokens))
   pub closes : front (drop a.end tokens) ≡ CloseParen
   pub rest_is : rest ≡ drop 1 (drop a.end tokens)
 
 pub record NoAnnotation (ts : List Token) : Type 0 where
-  pub none : (t : TyExpr) (d : ℕ) (us : List Token) → ReadsType (drop 1 ts) t d us → d ≤ 1000 → front us ≡ CloseParen → ⊥
+  pub none : (t : TyExpr) (us : List Token) → ReadsType Factors (drop 1 ts) (got t us) → front us ≡ CloseParen → ⊥
 
 -- the pattern of a level at the front of ts, before rest, of at most this depth
 pub record IsFound (text : List ℕ) (level : Level) (left : ℕ) (ts rest : List Token) (f : Found) : Type 0 where

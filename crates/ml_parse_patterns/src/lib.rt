@@ -8,7 +8,6 @@ mod looks;
 mod nodes;
 mod params;
 mod simple;
-mod stub;
 
 pub use found::{Found, FoundParam, FoundParams};
 pub use levels::read_pattern;

@@ -2,28 +2,18 @@ ghost use Rattle.std.specs.Prelude.{◌≡◌, ◌+◌, ◌^◌, ◌<◌, max, d
 ghost use Rattle.ml_cursor.specs.Says.{IsRefusal};
 ghost use Rattle.ml_tree.specs.declared.pattern.ConName.TheVariants.{Named as ConNamed};
 ghost use Rattle.ml_tree.specs.declared.pattern.PatKind.TheVariants as Kind;
-ghost use Rattle.ml_parse_patterns.specs.Looks.{node, no_words, leaf_kind};
+ghost use Rattle.ml_parse_patterns.specs.Looks.{node, leaf_kind};
 ghost use Rattle.ml_parse_patterns.specs.Readings.{IsNode};
 
 use crate::found::Found;
 use crate::looks::Leaf;
 use ml_cursor::{extent, refusal_at};
 use ml_lexer::Token;
-use ml_tree::{ConName, FieldPat, Pat, PatKind, TyExpr, Words};
+use ml_parse_types::no_words;
+use ml_tree::{ConName, FieldPat, Pat, PatKind, TyExpr};
 use oxml_base::{Items, Refusal, Span};
 use sqlite_items::Boxed;
 use std::alloc::{AllocError, Global};
-
-/// No words at all.
-pub fn no_words() -> Words
-    ensures { result ≡ no_words }
-{
-    Words {
-        loc: None,
-        uni: None,
-        aff: None,
-    }
-}
 
 /// What a leaf is.
 pub fn leaf_kind(leaf: Leaf) -> PatKind

@@ -8,11 +8,11 @@ ghost use Rattle.ml_parse_patterns.specs.Readings.{IsParam, NoParam, AreParams, 
 use crate::found::{Found, FoundParam, FoundParams};
 use crate::levels::read_pattern;
 use crate::looks::{Leaf, ParamLead, begins_param, param_lead_at, pass_all};
-use crate::nodes::{give_up, leaf_kind, no_words, node, typed};
+use crate::nodes::{give_up, leaf_kind, node, typed};
 use crate::simple::read_annotation;
-use crate::stub::read_words;
 use ml_cursor::{Front, ParseErr, front_at, pass, refusal_at};
 use ml_lexer::Token;
+use ml_parse_types::{no_words, read_words};
 use ml_tree::{Param, Words};
 use oxml_base::Items;
 use std::alloc::Global;

@@ -11,16 +11,13 @@ use crate::levels::read_pattern;
 use crate::lists::{read_fields, read_list};
 use crate::looks::{Lead, Leaf, Listing, applies_at, lead_at, pass_all};
 use crate::nodes::{applied, give_up, leaf_kind, node, paren, typed};
-use crate::stub::{read_type, read_words};
 use ml_cursor::{Front, ParseErr, front_at, pass, refusal_at, span_at, take};
 use ml_lexer::{Token, text_bytes};
+use ml_parse_types::{Row, read_type, read_words};
 use ml_tree::PatKind;
 use oxml_base::Items;
 use sqlite_items::at as token_at;
 use std::alloc::Global;
-
-/// A type may be this deep.
-pub const MAX_TYPE_DEPTH: u32 = 1000;
 
 /// Reads the leaf that a look has told whole.
 fn read_leaf(tokens: &[Token], at: &mut usize, leaf: Leaf, width: usize) -> Found
@@ -86,10 +83,10 @@ pub fn read_annotation(
     ensures err { IfErr result (Says tokens.now (NoAnnotation (drop at.old tokens.now))) }
 {
     pass(tokens, at);
-    let read = read_type(alloc, tokens, at, MAX_TYPE_DEPTH)?;
+    let ty = read_type(alloc, tokens, at, Row::Factors)?;
     let end = *at;
     take(tokens, at, Front::CloseParen)?;
-    Ok(Annotation { ty: read.ty, end })
+    Ok(Annotation { ty, end })
 }
 
 /// Reads a pattern in parentheses, with or without a type; the pattern may be as deep as `below`.
