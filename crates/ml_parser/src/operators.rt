@@ -1,5 +1,5 @@
-ghost use Rattle.std.specs.Prelude.{◌≡◌, drop, option_map, IfSome, IfNone, Some, None};
-ghost use Rattle.ml_parser.specs.Looks.{operator, operator_at, groups_left};
+ghost use Rattle.std.specs.Prelude.{◌≡◌, drop, Some};
+ghost use Rattle.ml_parser.specs.Looks.{binary, operator, of_level, operator_at, groups_left};
 
 use crate::looks::Joint;
 use ml_cursor::{Front, front_at, pass};
@@ -28,7 +28,9 @@ pub fn groups_left(level: u8) -> bool
     level == 2 || level == 3 || level == 6
 }
 
-fn binary(level: u8, op: BinOp) -> Option<Operator> {
+fn binary(level: u8, op: BinOp) -> Option<Operator>
+    ensures { result ≡ binary level op }
+{
     Some(Operator {
         level,
         joint: Joint::Binary(op),
@@ -69,23 +71,23 @@ pub fn operator_of(front: Front) -> Option<Operator>
     }
 }
 
+/// What an operator makes of its operands, if it is of this level.
+fn of_level(level: u8, found: Operator) -> Option<Joint>
+    ensures { result ≡ of_level level (Some found) }
+{
+    if found.level == level {
+        return Some(found.joint);
+    }
+    None
+}
+
 /// The operator of this level that stands at a place.
 #[tactic(auto, unfolding(crate::specs::Looks::operator_at))]
 pub fn operator_at(tokens: &[Token], at: usize, level: u8) -> Option<Joint>
     ensures { result ≡ operator_at level (drop at tokens.now) }
 {
     match operator_of(front_at(tokens, at)) {
-        Some(found) => found.at_level(level),
+        Some(found) => of_level(level, found),
         None => None,
-    }
-}
-
-impl Operator {
-    /// What it makes of its operands, if it is of this level.
-    fn at_level(self, level: u8) -> Option<Joint> {
-        if self.level == level {
-            return Some(self.joint);
-        }
-        None
     }
 }
