@@ -121,22 +121,22 @@ pub operators_step : {text : List ℕ} {n k : ℕ} {ts us r : List Token} {a e :
 operators_step {text} {n} {k} {ts} {r = r} {e = e} {d = d} {left = left} q x i =
     subst (λ n. IsRead (Reads text (operators n) ts) left e d r) (sym q) (record { reads = a_level x i.reads; small = i.small })
 
+one_lower : {text : List ℕ} {k : ℕ} {ts r : List Token} {e : Expr} {d : ℕ} → Reads text (operators (suc k)) ts e d r → Along (Reads text (operators k) ts) d
+one_lower (a_level x y) = along _ _ _ x (level_grows y)
+
 -- what a higher level reads begins with what a lower one does
-lower : {text : List ℕ} {ts r : List Token} {e : Expr} {d : ℕ} (k more : ℕ) → Reads text (operators (more + k)) ts e d r → Along (Reads text (operators k) ts) d
-lower {text} {ts} {r} {e} {d} k zero x =
+lower : {text : List ℕ} {ts : List Token} (k more : ℕ) (e : Expr) (d : ℕ) (r : List Token) → Reads text (operators (more + k)) ts e d r → Along (Reads text (operators k) ts) d
+lower {text} {ts} k zero e d r x =
     along e d r (subst (λ n. Reads text (operators n) ts e d r) (let q : 0 + k ≡ k = omega arith in q) x) (omega arith)
-lower {text} {ts} {r} {e} {d} k (suc more) x =
-    inner (subst (λ n. Reads text (operators n) ts e d r) (let q : suc more + k ≡ suc (more + k) = omega arith in q) x)
-  where
-    inner : {e : Expr} {d : ℕ} {r : List Token} → Reads text (operators (suc (more + k))) ts e d r → Along (Reads text (operators k) ts) d
-    inner (a_level x y) =
-        let i = lower k more x in
-        let m = i.most in
-        let j = level_grows y in
-        along i.tree i.depth i.rest i.reads (omega arith)
+lower {text} {ts} k (suc more) e d r x =
+    let b = one_lower (subst (λ n. Reads text (operators n) ts e d r) (let q : suc more + k ≡ suc (more + k) = omega arith in q) x) in
+    let i = lower k more b.tree b.depth b.rest b.reads in
+    let m = i.most in
+    let l = b.most in
+    along i.tree i.depth i.rest i.reads (omega arith)
 
 pub operators_deep : {text : List ℕ} {n k : ℕ} {ts : List Token} {left : ℕ} → k ≤ n → AreDeep (Reads text (operators k) ts) left → AreDeep (Reads text (operators n) ts) left
-operators_deep {text} {n} {k} {ts} q h = deep_along (λ e d r x. lower k (n - k) (subst (λ n. Reads text (operators n) ts e d r) (let p : n ≡ n - k + k = omega arith in p) x)) h
+operators_deep {text} {n} {k} {ts} q h = deep_along (λ e d r x. lower k (n - k) e d r (subst (λ n. Reads text (operators n) ts e d r) (let p : n ≡ n - k + k = omega arith in p) x)) h
 
 pub operators_deep_behind : {text : List ℕ} {n k : ℕ} {ts us : List Token} {a : Expr} {da left : ℕ} → suc k ≤ n → Reads text (operators k) ts a da us → AreDeep (Levels text k a da us) left → AreDeep (Reads text (operators n) ts) left
 operators_deep_behind {text} {n} {k} {ts} {us} {a} {da} {left} q x h = operators_deep q (deep_along (λ e d r y. inner y) h)
@@ -146,12 +146,12 @@ operators_deep_behind {text} {n} {k} {ts} {us} {a} {da} {left} q x h = operators
 
 -- one field or index
 
+one_more : {text : List ℕ} {l : Suffix} {ts r : List Token} {a e : Expr} {da d : ℕ} → OneSuffix text a da l ts e d r → da < d
+one_more (one_field p q) = omega arith
+one_more (one_index x p) = omega arith
+
 pub suffix_no_room : {text : List ℕ} {l : Suffix} {a : Expr} {da left : ℕ} {ts : List Token} → left ≤ da → AreDeep (OneSuffix text a da l ts) left
-suffix_no_room {text} {l} {a} {da} {left} {ts} h = record { deep = λ e d r x. inner x }
-  where
-    inner : {e : Expr} {d : ℕ} {r : List Token} → OneSuffix text a da l ts e d r → left < d
-    inner (one_field p q) = omega arith
-    inner (one_index x p) = omega arith
+suffix_no_room h = record { deep = λ e d r x. let i = one_more x in omega arith }
 
 pub field_read : {text : List ℕ} {a e : Expr} {da d left : ℕ} {ts us r : List Token} {s name : Span} → Takes F.Dot ts us s → Takes F.Lower us r name → e ≡ node (start_of a) name.end (E.Field a name) → d ≡ da + 1 → da < left → IsRead (OneSuffix text a da S.Field ts) left e d r
 field_read {r = r} p q h k m = read_as r (one_field p q) h k (omega arith)

@@ -1,6 +1,7 @@
 mod Atoms
 mod Deep
 mod Growth
+mod Items
 mod Levels
 mod OpenForms
 mod Programs
