@@ -57,7 +57,7 @@ no_atom {text} {ts} = never (λ y d r q. inner q)
 
 -- paren
 
-pub paren_deep : {text : List ℕ} {ts us : List Token} {left below : ℕ} → us ≡ drop 1 ts → below ≡ left - 1 → AreDeep (Reads text seq us) below → AreDeep (AtomBy text A.Paren ts) left
+pub paren_deep : {text : List ℕ} {ts us : List Token} {left below : ℕ} → us ≡ drop 1 ts → left ≤ below + 1 → AreDeep (Reads text seq us) below → AreDeep (AtomBy text A.Paren ts) left
 paren_deep {text} {ts} e b h = deep_inside b (λ y d r q. inner q) (deep_at (λ us. Reads text seq us) e h)
   where
     inner : {y : Expr} {d : ℕ} {r : List Token} → AtomBy text A.Paren ts y d r → Inside (Reads text seq (drop 1 ts)) d
@@ -73,8 +73,8 @@ paren_not_closed {text} {ts} {us} {vs} {x} {c} {from} e f n = never (λ y d r q.
     inner (a_paren {rest = r} {s = s} z p) = n _ r (closes_paren (subst (λ us. Takes F.CloseParen us r s) (same first z).rest p))
     inner (a_typed {vs = vs'} {rest = r} {c = c'} z p t q) = n _ r (closes_typed (subst (λ us. Takes F.Colon us vs' c') (same first z).rest p) t q)
 
-pub paren_read : {text : List ℕ} {ts us vs r : List Token} {s : Span} {x e : Expr} {c d left below : ℕ} → us ≡ drop 1 ts → s ≡ first_span ts → below ≡ left - 1 → 0 < left → IsRead (Reads text seq us) below x c vs → ClosesParens s.start x vs e r → d ≡ c + 1 → IsRead (AtomBy text A.Paren ts) left e d r
-paren_read {text} {ts} {us} {vs} {r} {s} {x} {e} {c} {d} {left} f g b p i t k =
+pub paren_read : {text : List ℕ} {ts us vs r : List Token} {s : Span} {x e : Expr} {c d left below : ℕ} → us ≡ drop 1 ts → s ≡ first_span ts → below < left → IsRead (Reads text seq us) below x c vs → ClosesParens s.start x vs e r → d ≡ c + 1 → IsRead (AtomBy text A.Paren ts) left e d r
+paren_read {text} {ts} {us} {vs} {r} {s} {x} {e} {c} {d} {left} f g b i t k =
     let m = i.small in
     read_as r (made (subst (λ us. Reads text seq us x c vs) f i.reads) (subst (λ s. ClosesParens s.start x vs e r) g t)) refl k (omega arith)
   where
@@ -84,7 +84,7 @@ paren_read {text} {ts} {us} {vs} {r} {s} {x} {e} {c} {d} {left} f g b p i t k =
 
 -- begin
 
-pub begin_deep : {text : List ℕ} {ts us : List Token} {left below : ℕ} → us ≡ drop 1 ts → below ≡ left - 1 → AreDeep (Reads text seq us) below → AreDeep (AtomBy text A.Begin ts) left
+pub begin_deep : {text : List ℕ} {ts us : List Token} {left below : ℕ} → us ≡ drop 1 ts → left ≤ below + 1 → AreDeep (Reads text seq us) below → AreDeep (AtomBy text A.Begin ts) left
 begin_deep {text} {ts} e b h = deep_inside b (λ y d r q. inner q) (deep_at (λ us. Reads text seq us) e h)
   where
     inner : {y : Expr} {d : ℕ} {r : List Token} → AtomBy text A.Begin ts y d r → Inside (Reads text seq (drop 1 ts)) d
@@ -98,14 +98,14 @@ begin_not_closed {text} {ts} {us} {vs} {x} {c} e f n = never (λ y d r q. inner 
     inner : {y : Expr} {d : ℕ} {r : List Token} → AtomBy text A.Begin ts y d r → ⊥
     inner (a_begin z p) = n (ap front (sym (same first z).rest) ∙ p.stands)
 
-pub begin_read : {text : List ℕ} {ts us vs r : List Token} {s w : Span} {x : Expr} {e : Expr} {c d left below : ℕ} → us ≡ drop 1 ts → s ≡ first_span ts → below ≡ left - 1 → 0 < left → IsRead (Reads text seq us) below x c vs → Takes F.End vs r w → e ≡ node s.start w.end (E.Paren x) → d ≡ c + 1 → IsRead (AtomBy text A.Begin ts) left e d r
-begin_read {text} {ts} {us} {vs} {r} {w = w} {x = x} {c = c} {left = left} f g b p i t h k =
+pub begin_read : {text : List ℕ} {ts us vs r : List Token} {s w : Span} {x : Expr} {e : Expr} {c d left below : ℕ} → us ≡ drop 1 ts → s ≡ first_span ts → below < left → IsRead (Reads text seq us) below x c vs → Takes F.End vs r w → e ≡ node s.start w.end (E.Paren x) → d ≡ c + 1 → IsRead (AtomBy text A.Begin ts) left e d r
+begin_read {text} {ts} {us} {vs} {r} {w = w} {x = x} {c = c} {left = left} f g b i t h k =
     let m = i.small in
     read_as r (a_begin (subst (λ us. Reads text seq us x c vs) f i.reads) t) (h ∙ ap (λ s. node s.start w.end (E.Paren x)) g) k (omega arith)
 
 -- list
 
-pub list_deep : {text : List ℕ} {ts us : List Token} {left below : ℕ} → us ≡ drop 1 ts → below ≡ left - 1 → AreDeep (Lists text (exprs Q.Elements) us) below → AreDeep (AtomBy text A.List ts) left
+pub list_deep : {text : List ℕ} {ts us : List Token} {left below : ℕ} → us ≡ drop 1 ts → left ≤ below + 1 → AreDeep (Lists text (exprs Q.Elements) us) below → AreDeep (AtomBy text A.List ts) left
 list_deep {text} {ts} e b h = deep_inside b (λ y d r q. inner q) (deep_at (λ us. Lists text (exprs Q.Elements) us) e h)
   where
     inner : {y : Expr} {d : ℕ} {r : List Token} → AtomBy text A.List ts y d r → Inside (Lists text (exprs Q.Elements) (drop 1 ts)) d
@@ -119,14 +119,14 @@ list_not_closed {text} {ts} {us} {vs} {x} {c} e f n = never (λ y d r q. inner q
     inner : {y : Expr} {d : ℕ} {r : List Token} → AtomBy text A.List ts y d r → ⊥
     inner (a_list z p) = n (ap front (sym (same_list first z).rest) ∙ p.stands)
 
-pub list_read : {text : List ℕ} {ts us vs r : List Token} {s w : Span} {x : List Expr} {e : Expr} {c d left below : ℕ} → us ≡ drop 1 ts → s ≡ first_span ts → below ≡ left - 1 → 0 < left → IsRead (Lists text (exprs Q.Elements) us) below x c vs → Takes F.CloseBracket vs r w → e ≡ node s.start w.end (E.List x) → d ≡ c + 1 → IsRead (AtomBy text A.List ts) left e d r
-list_read {text} {ts} {us} {vs} {r} {w = w} {x = x} {c = c} {left = left} f g b p i t h k =
+pub list_read : {text : List ℕ} {ts us vs r : List Token} {s w : Span} {x : List Expr} {e : Expr} {c d left below : ℕ} → us ≡ drop 1 ts → s ≡ first_span ts → below < left → IsRead (Lists text (exprs Q.Elements) us) below x c vs → Takes F.CloseBracket vs r w → e ≡ node s.start w.end (E.List x) → d ≡ c + 1 → IsRead (AtomBy text A.List ts) left e d r
+list_read {text} {ts} {us} {vs} {r} {w = w} {x = x} {c = c} {left = left} f g b i t h k =
     let m = i.small in
     read_as r (a_list (subst (λ us. Lists text (exprs Q.Elements) us x c vs) f i.reads) t) (h ∙ ap (λ s. node s.start w.end (E.List x)) g) k (omega arith)
 
 -- fields
 
-pub fields_deep : {text : List ℕ} {ts us : List Token} {left below : ℕ} → us ≡ drop 1 ts → below ≡ left - 1 → AreDeep (Lists text fields us) below → AreDeep (AtomBy text A.Record ts) left
+pub fields_deep : {text : List ℕ} {ts us : List Token} {left below : ℕ} → us ≡ drop 1 ts → left ≤ below + 1 → AreDeep (Lists text fields us) below → AreDeep (AtomBy text A.Record ts) left
 fields_deep {text} {ts} e b h = deep_inside b (λ y d r q. inner q) (deep_at (λ us. Lists text fields us) e h)
   where
     inner : {y : Expr} {d : ℕ} {r : List Token} → AtomBy text A.Record ts y d r → Inside (Lists text fields (drop 1 ts)) d
@@ -140,8 +140,8 @@ fields_not_closed {text} {ts} {us} {vs} {x} {c} e f n = never (λ y d r q. inner
     inner : {y : Expr} {d : ℕ} {r : List Token} → AtomBy text A.Record ts y d r → ⊥
     inner (a_record z p) = n (ap front (sym (same_list first z).rest) ∙ p.stands)
 
-pub fields_read : {text : List ℕ} {ts us vs r : List Token} {s w : Span} {x : List FieldExpr} {e : Expr} {c d left below : ℕ} → us ≡ drop 1 ts → s ≡ first_span ts → below ≡ left - 1 → 0 < left → IsRead (Lists text fields us) below x c vs → Takes F.CloseBrace vs r w → e ≡ node s.start w.end (E.Fields x) → d ≡ c + 1 → IsRead (AtomBy text A.Record ts) left e d r
-fields_read {text} {ts} {us} {vs} {r} {w = w} {x = x} {c = c} {left = left} f g b p i t h k =
+pub fields_read : {text : List ℕ} {ts us vs r : List Token} {s w : Span} {x : List FieldExpr} {e : Expr} {c d left below : ℕ} → us ≡ drop 1 ts → s ≡ first_span ts → below < left → IsRead (Lists text fields us) below x c vs → Takes F.CloseBrace vs r w → e ≡ node s.start w.end (E.Fields x) → d ≡ c + 1 → IsRead (AtomBy text A.Record ts) left e d r
+fields_read {text} {ts} {us} {vs} {r} {w = w} {x = x} {c = c} {left = left} f g b i t h k =
     let m = i.small in
     read_as r (a_record (subst (λ us. Lists text fields us x c vs) f i.reads) t) (h ∙ ap (λ s. node s.start w.end (E.Fields x)) g) k (omega arith)
 
@@ -159,18 +159,18 @@ text_read {text} {t} {ts} {r} {bytes} {e} {d} f g i h k p = read_as r (subst (λ
 
 -- constructors with an argument
 
-pub block_deep : {text : List ℕ} {ts us : List Token} {left below : ℕ} → us ≡ drop 1 ts → below ≡ left - 1 → AreDeep (Reads text simple us) below → AreDeep (ConBy text F.Upper ts) left
+pub block_deep : {text : List ℕ} {ts us : List Token} {left below : ℕ} → us ≡ drop 1 ts → left ≤ below + 1 → AreDeep (Reads text simple us) below → AreDeep (ConBy text F.Upper ts) left
 block_deep {text} {ts} e b h = deep_inside b (λ y d r q. inner q) (deep_at (Reads text simple) e h)
   where
     inner : {y : Expr} {d : ℕ} {r : List Token} → ConBy text F.Upper ts y d r → Inside (Reads text simple (drop 1 ts)) d
     inner (a_block x) = inside _ _ _ x (omega arith)
 
-pub block_read : {text : List ℕ} {ts us r : List Token} {s : Span} {x e : Expr} {c d left below : ℕ} → us ≡ drop 1 ts → s ≡ first_span ts → below ≡ left - 1 → 0 < left → IsRead (Reads text simple us) below x c r → e ≡ node s.start (end_of x) (E.Con (Named s) (Some x)) → d ≡ c + 1 → IsRead (ConBy text F.Upper ts) left e d r
-block_read {text} {ts} {us} {r} {s} {x} {e} {c} {d} {left} f g b p i h k =
+pub block_read : {text : List ℕ} {ts us r : List Token} {s : Span} {x e : Expr} {c d left below : ℕ} → us ≡ drop 1 ts → s ≡ first_span ts → below < left → IsRead (Reads text simple us) below x c r → e ≡ node s.start (end_of x) (E.Con (Named s) (Some x)) → d ≡ c + 1 → IsRead (ConBy text F.Upper ts) left e d r
+block_read {text} {ts} {us} {r} {s} {x} {e} {c} {d} {left} f g b i h k =
     let m = i.small in
     read_as r (a_block (subst (λ us. Reads text simple us x c r) f i.reads)) (h ∙ ap (λ s. node s.start (end_of x) (E.Con (Named s) (Some x))) g) k (omega arith)
 
-pub cell_deep : {text : List ℕ} {ts us : List Token} {left below : ℕ} → us ≡ drop 1 ts → below ≡ left - 1 → AreDeep (Reads text (operators 3) us) below → AreDeep (ConBy text F.OpenParen ts) left
+pub cell_deep : {text : List ℕ} {ts us : List Token} {left below : ℕ} → us ≡ drop 1 ts → left ≤ below + 1 → AreDeep (Reads text (operators 3) us) below → AreDeep (ConBy text F.OpenParen ts) left
 cell_deep {text} {ts} e b h = deep_inside b (λ y d r q. inner q) (deep_at (Reads text (operators 3)) e h)
   where
     inner : {y : Expr} {d : ℕ} {r : List Token} → ConBy text F.OpenParen ts y d r → Inside (Reads text (operators 3) (drop 1 ts)) d
@@ -211,7 +211,7 @@ cells : {text : List ℕ} {x w : Expr} {c k : ℕ} {vs ws : List Token} → fron
 cells {text} {x} {w} {c} {k} {vs} {ws} p y =
     cells_of (subst (λ o. LevelBy text 3 false o vs x c w k ws) (pair_at vs p) (subst (λ g. LevelBy text 3 g (operator_at 4 vs) vs x c w k ws) four y))
 
-pub cell_deep_behind : {text : List ℕ} {ts us vs : List Token} {x : Expr} {c left below : ℕ} → us ≡ drop 1 ts → below ≡ left - 1 → Reads text (operators 3) us x c vs → AreDeep (Levels text 3 x c vs) below → AreDeep (ConBy text F.OpenParen ts) left
+pub cell_deep_behind : {text : List ℕ} {ts us vs : List Token} {x : Expr} {c left below : ℕ} → us ≡ drop 1 ts → left ≤ below + 1 → Reads text (operators 3) us x c vs → AreDeep (Levels text 3 x c vs) below → AreDeep (ConBy text F.OpenParen ts) left
 cell_deep_behind {text} {ts} {us} {vs} {x} {c} e b f h = deep_inside b (λ y d r q. inner q) h
   where
     first : Reads text (operators 3) (drop 1 ts) x c vs
@@ -234,8 +234,8 @@ cell_not_closed {text} {ts} {us} {vs} {ws} {x} {w} {c} {k} e f l n = never (λ y
         let m = moved (λ a da us. Levels text 3 a da us (joined Pair a b') (max da db' + 1) r) i (pair_level p y) in
         n (ap front (sym (same_level l m).rest) ∙ q.stands)
 
-pub cell_read : {text : List ℕ} {ts us vs ws r : List Token} {s v : Span} {x w e : Expr} {c k d left below : ℕ} → us ≡ drop 1 ts → s ≡ first_span ts → below ≡ left - 1 → 0 < left → Reads text (operators 3) us x c vs → front vs ≡ F.ColonColon → IsRead (Levels text 3 x c vs) below w k ws → Takes F.CloseParen ws r v → e ≡ node s.start v.end (E.Paren w) → d ≡ k + 1 → IsRead (ConBy text F.OpenParen ts) left e d r
-cell_read {text} {ts} {us} {vs} {ws} {r} {s} {v} {x} {w} {e} {c} {k} {d} {left} f g b p z q l t h m =
+pub cell_read : {text : List ℕ} {ts us vs ws r : List Token} {s v : Span} {x w e : Expr} {c k d left below : ℕ} → us ≡ drop 1 ts → s ≡ first_span ts → below < left → Reads text (operators 3) us x c vs → front vs ≡ F.ColonColon → IsRead (Levels text 3 x c vs) below w k ws → Takes F.CloseParen ws r v → e ≡ node s.start v.end (E.Paren w) → d ≡ k + 1 → IsRead (ConBy text F.OpenParen ts) left e d r
+cell_read {text} {ts} {us} {vs} {ws} {r} {s} {v} {x} {w} {e} {c} {k} {d} {left} f g b z q l t h m =
     let o = l.small in
     read_as r (made (cells q l.reads)) (h ∙ ap (λ s. node s.start v.end (E.Paren w)) g) m (omega arith)
   where

@@ -28,7 +28,7 @@ inside x c r p h = record { tree = x; depth = c; rest = r; reads = p; less = h }
 pub along : {A : Type 0} {P : A → ℕ → List Token → Type 0} {d : ℕ} (x : A) (c : ℕ) (r : List Token) → P x c r → c ≤ d → Along P d
 along x c r p h = record { tree = x; depth = c; rest = r; reads = p; most = h }
 
-pub deep_inside : {A B : Type 0} {P : A → ℕ → List Token → Type 0} {Q : B → ℕ → List Token → Type 0} {left below : ℕ} → below ≡ left - 1 → ((y : B) (d : ℕ) (r : List Token) → Q y d r → Inside P d) → AreDeep P below → AreDeep Q left
+pub deep_inside : {A B : Type 0} {P : A → ℕ → List Token → Type 0} {Q : B → ℕ → List Token → Type 0} {left below : ℕ} → left ≤ below + 1 → ((y : B) (d : ℕ) (r : List Token) → Q y d r → Inside P d) → AreDeep P below → AreDeep Q left
 deep_inside {A} {B} {P} {Q} {left} {below} e f h = record { deep = λ y d r q.
     let i = f y d r q in
     let k = h.deep i.tree i.depth i.rest i.reads in

@@ -52,7 +52,7 @@ listed_no_room {text} {q} {ts} {us} {a} {da} x g h = record { deep = λ e d r y.
 several_inside : {text : List ℕ} {q : ListKind} {us r : List Token} {a e : Expr} {da d : ℕ} → ListedBy text q true us a da e d r → Inside (Lists text (exprs q) (next q us)) d
 several_inside (several x) = inside _ _ _ x (omega arith)
 
-pub listed_deep : {text : List ℕ} {q : ListKind} {ts us vs : List Token} {a : Expr} {da left below : ℕ} → Reads text (part_of q) ts a da us → goes_on q us ≡ true → vs ≡ next q us → below ≡ left - 1 → AreDeep (Lists text (exprs q) vs) below → AreDeep (Reads text (listed q) ts) left
+pub listed_deep : {text : List ℕ} {q : ListKind} {ts us vs : List Token} {a : Expr} {da left below : ℕ} → Reads text (part_of q) ts a da us → goes_on q us ≡ true → vs ≡ next q us → left ≤ below + 1 → AreDeep (Lists text (exprs q) vs) below → AreDeep (Reads text (listed q) ts) left
 listed_deep {text} {q} {ts} {us} {vs} {a} {da} x g f b h =
     deep_inside b (λ e d r y. several_inside (subst (λ b. ListedBy text q b us a da e d r) g (listed_of x y))) (deep_at (Lists text (exprs q)) f h)
 

@@ -26,13 +26,13 @@ infix_no_room {text} {n} {o} {a} {da} {left} {ts} h = record { deep = λ e d r x
     inner : {e : Expr} {d : ℕ} {r : List Token} → Infix text n o a da ts e d r → left < d
     inner (infix_of x) = omega arith
 
-pub infix_deep : {text : List ℕ} {n : ℕ} {o : Joint} {a : Expr} {da left below : ℕ} {ts us : List Token} → us ≡ drop 1 ts → below ≡ left - 1 → AreDeep (Reads text (operators n) us) below → AreDeep (Infix text n o a da ts) left
+pub infix_deep : {text : List ℕ} {n : ℕ} {o : Joint} {a : Expr} {da left below : ℕ} {ts us : List Token} → us ≡ drop 1 ts → left ≤ below + 1 → AreDeep (Reads text (operators n) us) below → AreDeep (Infix text n o a da ts) left
 infix_deep {text} {n} {o} {a} {da} {ts = ts} e b h = deep_inside b (λ y d r q. inner q) (deep_at (Reads text (operators n)) e h)
   where
     inner : {e : Expr} {d : ℕ} {r : List Token} → Infix text n o a da ts e d r → Inside (Reads text (operators n) (drop 1 ts)) d
     inner (infix_of x) = inside _ _ _ x (omega arith)
 
-pub infix_read : {text : List ℕ} {n : ℕ} {o : Joint} {a b e : Expr} {da db d left below : ℕ} {ts us r : List Token} → us ≡ drop 1 ts → below ≡ left - 1 → da < left → IsRead (Reads text (operators n) us) below b db r → e ≡ joined o a b → d ≡ max da db + 1 → IsRead (Infix text n o a da ts) left e d r
+pub infix_read : {text : List ℕ} {n : ℕ} {o : Joint} {a b e : Expr} {da db d left below : ℕ} {ts us r : List Token} → us ≡ drop 1 ts → below < left → da < left → IsRead (Reads text (operators n) us) below b db r → e ≡ joined o a b → d ≡ max da db + 1 → IsRead (Infix text n o a da ts) left e d r
 infix_read {text} {n} {b = b} {db = db} {r = r} f w p i h k =
     let m = i.small in
     read_as r (infix_of (subst (λ us. Reads text (operators n) us b db r) f i.reads)) h k (omega arith)
@@ -168,7 +168,7 @@ field_no_name {text} {a} {da} {left} {ts} t n = never (λ e d r x. inner x)
     inner : {e : Expr} {d : ℕ} {r : List Token} → OneSuffix text a da S.Field ts e d r → ⊥
     inner (one_field p q) = n (ap front (sym (same_takes t p).rest) ∙ q.stands)
 
-pub index_deep : {text : List ℕ} {a : Expr} {da left below : ℕ} {ts us vs : List Token} → us ≡ drop 1 ts → vs ≡ drop 1 us → below ≡ left - 1 → AreDeep (Reads text seq vs) below → AreDeep (OneSuffix text a da S.Index ts) left
+pub index_deep : {text : List ℕ} {a : Expr} {da left below : ℕ} {ts us vs : List Token} → us ≡ drop 1 ts → vs ≡ drop 1 us → left ≤ below + 1 → AreDeep (Reads text seq vs) below → AreDeep (OneSuffix text a da S.Index ts) left
 index_deep {text} {a} {da} {ts = ts} e f b h = deep_inside b (λ e d r x. inner x) (deep_at (Reads text seq) (f ∙ ap (drop 1) e) h)
   where
     inner : {e : Expr} {d : ℕ} {r : List Token} → OneSuffix text a da S.Index ts e d r → Inside (Reads text seq (drop 1 (drop 1 ts))) d
@@ -182,7 +182,7 @@ index_not_closed {text} {a} {i} {da} {di} {left} {ts} {us} {vs} {ws} e f x n = n
     inner : {e : Expr} {d : ℕ} {r : List Token} → OneSuffix text a da S.Index ts e d r → ⊥
     inner (one_index y p) = n (ap front (sym (same first y).rest) ∙ p.stands)
 
-pub index_read : {text : List ℕ} {a i e : Expr} {da di d left below : ℕ} {ts us vs ws r : List Token} {s : Span} → us ≡ drop 1 ts → vs ≡ drop 1 us → below ≡ left - 1 → da < left → IsRead (Reads text seq vs) below i di ws → Takes F.CloseBracket ws r s → e ≡ node (start_of a) s.end (E.Index a i) → d ≡ max da di + 1 → IsRead (OneSuffix text a da S.Index ts) left e d r
+pub index_read : {text : List ℕ} {a i e : Expr} {da di d left below : ℕ} {ts us vs ws r : List Token} {s : Span} → us ≡ drop 1 ts → vs ≡ drop 1 us → below < left → da < left → IsRead (Reads text seq vs) below i di ws → Takes F.CloseBracket ws r s → e ≡ node (start_of a) s.end (E.Index a i) → d ≡ max da di + 1 → IsRead (OneSuffix text a da S.Index ts) left e d r
 index_read {text} {i = i} {di = di} {ts = ts} {ws = ws} {r = r} e f b p x t h k =
     let m = x.small in
     read_as r (one_index (subst (λ vs. Reads text seq vs i di ws) (f ∙ ap (drop 1) e) x.reads) t) h k (omega arith)
