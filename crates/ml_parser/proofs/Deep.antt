@@ -1,5 +1,5 @@
 -- Parts that are too deep make wholes that are.
-use Rattle.std.proofs.Common.{◌≡◌, ℕ, ◌+◌, ◌-◌, ◌<◌, ◌≤◌, max, List, refl, subst, ap, arith}
+use Rattle.std.proofs.Common.{◌≡◌, ℕ, ◌+◌, ◌-◌, ◌<◌, ◌≤◌, max, List, subst, sym, arith}
 use Rattle.ml_lexer.specs.declared.token.Token.{Token}
 use Rattle.ml_cursor.specs.declared.error.ParseErr.{ParseErr}
 use Rattle.ml_cursor.specs.declared.error.ParseErr.TheVariants.{Refused, NoMemory}
@@ -28,7 +28,7 @@ inside x c r p h = record { tree = x; depth = c; rest = r; reads = p; less = h }
 pub along : {A : Type 0} {P : A → ℕ → List Token → Type 0} {d : ℕ} (x : A) (c : ℕ) (r : List Token) → P x c r → c ≤ d → Along P d
 along x c r p h = record { tree = x; depth = c; rest = r; reads = p; most = h }
 
-pub deep_inside : {A B : Type 0} {P : A → ℕ → List Token → Type 0} {Q : B → ℕ → List Token → Type 0} {left below : ℕ} → below ≡ left - 1 → ((y : B) (d : ℕ) (r : List Token) → Q y d r → Inside P d) → AreDeep P below → AreDeep Q left
+pub deep_inside : {A B : Type 0} {P : A → ℕ → List Token → Type 0} {Q : B → ℕ → List Token → Type 0} {left below : ℕ} → left ≤ below + 1 → ((y : B) (d : ℕ) (r : List Token) → Q y d r → Inside P d) → AreDeep P below → AreDeep Q left
 deep_inside {A} {B} {P} {Q} {left} {below} e f h = record { deep = λ y d r q.
     let i = f y d r q in
     let k = h.deep i.tree i.depth i.rest i.reads in
@@ -58,3 +58,14 @@ zero_max a = omega arith
 
 pub max_assoc : (a b c : ℕ) → max (max a b) c ≡ max a (max b c)
 max_assoc a b c = omega arith
+
+-- what was made is what was read
+pub read_as : {A : Type 0} {P : A → ℕ → List Token → Type 0} {x y : A} {c d left : ℕ} (r : List Token) → P y c r → x ≡ y → d ≡ c → d ≤ left → IsRead P left x d r
+read_as {A} {P} {x} {y} {c} {d} r p e f small = record { reads = subst (λ x. P x d r) (sym e) (subst (λ d. P y d r) (sym f) p); small = small }
+
+-- what holds of one list of tokens holds of the same
+pub read_at : {A : Type 0} {us vs : List Token} {x : A} {d left : ℕ} (P : List Token → A → ℕ → List Token → Type 0) (r : List Token) → us ≡ vs → IsRead (P us) left x d r → IsRead (P vs) left x d r
+read_at {A} {us} {vs} {x} {d} {left} P r e i = subst (λ us. IsRead (P us) left x d r) e i
+
+pub deep_at : {A : Type 0} {us vs : List Token} {left : ℕ} (P : List Token → A → ℕ → List Token → Type 0) → us ≡ vs → AreDeep (P us) left → AreDeep (P vs) left
+deep_at {A} {us} {vs} {left} P e i = subst (λ us. AreDeep (P us) left) e i

@@ -96,7 +96,7 @@ same_target (pattern_target x) (pattern_target y) =
     let i = one_pattern x y in
     record { pattern = i.tree; params = refl; depth = i.depth; depths = refl; rest = i.rest }
 
-same_takes : {want : Front} {ts r s : List Token} {x y : Span} → Takes want ts r x → Takes want ts s y → Same x y 0 0 r s
+pub same_takes : {want : Front} {ts r s : List Token} {x y : Span} → Takes want ts r x → Takes want ts s y → Same x y 0 0 r s
 same_takes p q = record { tree = q.span_is ∙ sym p.span_is; depth = refl; rest = q.rest_is ∙ sym p.rest_is }
 
 -- the names of a borrow
@@ -114,10 +114,10 @@ same_borrows (borrows a b c d) (borrows {vs = vs'} {ws = ws'} {rest = r'} {y = y
     record { name = j.tree; origin = m.tree; rest = m.rest }
 
 -- one token at one place is not two
-no_clash : {us vs : List Token} {a b : Front} (P : Type 0) → vs ≡ us → front us ≡ a → front vs ≡ b → (a ≡ b → ⊥) → P
+pub no_clash : {us vs : List Token} {a b : Front} (P : Type 0) → vs ≡ us → front us ≡ a → front vs ≡ b → (a ≡ b → ⊥) → P
 no_clash P i p q n = absurd (n (sym p ∙ (ap front (sym i) ∙ q)))
 
-no_both : {us vs : List Token} {b c : Bool} (f : List Token → Bool) (P : Type 0) → vs ≡ us → f us ≡ b → f vs ≡ c → (b ≡ c → ⊥) → P
+pub no_both : {us vs : List Token} {b c : Bool} (f : List Token → Bool) (P : Type 0) → vs ≡ us → f us ≡ b → f vs ≡ c → (b ≡ c → ⊥) → P
 no_both f P i p q n = absurd (n (sym p ∙ (ap f (sym i) ∙ q)))
 
 mutual
@@ -131,7 +131,7 @@ mutual
   same {text = text} (a_list_of {q = q} x g) (a_list_of {rest = s} {e = f} {d = c} y h) =
       same_listed g (moved (λ b db vs. ListedBy text q (goes_on q vs) vs b db f c s) (same x y) h)
 
-  same_atom : {text : List ℕ} {l : AtomLead} {ts r s : List Token} {e f : Expr} {d c : ℕ} → AtomBy text l ts e d r → AtomBy text l ts f c s → Same e f d c r s
+  pub same_atom : {text : List ℕ} {l : AtomLead} {ts r s : List Token} {e f : Expr} {d c : ℕ} → AtomBy text l ts e d r → AtomBy text l ts f c s → Same e f d c r s
   same_atom a_leaf a_leaf = it _ _ _
   same_atom {text = text} (a_text {t = t} x) (a_text y) = record { tree = ap (λ bs. node t.span.start t.span.end (E.Text (record { bytes = bs }))) (same_literal x y); depth = refl; rest = refl }
   same_atom {ts = ts} (a_paren x p) (a_paren {rest = r'} {s = s'} y q) =
@@ -156,7 +156,7 @@ mutual
       let i = same_list x y in
       made3 (λ fs us s vs. node (first_span ts).start s.end (E.Fields fs)) (λ d. d + 1) (λ r. r) i (same_takes p (subst (λ us. Takes CloseBrace us r' s') i.rest q))
 
-  same_suffix : {text : List ℕ} {l : Suffix} {ts r s : List Token} {a e f : Expr} {da d c : ℕ} → SuffixBy text l ts a da e d r → SuffixBy text l ts a da f c s → Same e f d c r s
+  pub same_suffix : {text : List ℕ} {l : Suffix} {ts r s : List Token} {a e f : Expr} {da d c : ℕ} → SuffixBy text l ts a da e d r → SuffixBy text l ts a da f c s → Same e f d c r s
   same_suffix no_suffix no_suffix = it _ _ _
   same_suffix {text = text} (a_field {a = a} {da = da} p q x) (a_field {vs = vs'} {ws = ws'} {rest = s} {e = f} {d = c} {s = s'} {name = name'} p2 q2 y) =
       let i = same_takes p p2 in
@@ -168,17 +168,17 @@ mutual
       let z = moved (λ b db vs. SuffixBy text (suffix ws') ws' (node (start_of a) s'.end (E.Index a b)) (max da db + 1) f c s) k y in
       same_suffix x (moved (λ sp n ws. SuffixBy text (suffix ws) ws (node (start_of a) sp.end (E.Index a i0)) (max da di0 + 1) f c s) l z)
 
-  same_listed : {text : List ℕ} {q : ListKind} {b : Bool} {ts r s : List Token} {a e f : Expr} {da d c : ℕ} → ListedBy text q b ts a da e d r → ListedBy text q b ts a da f c s → Same e f d c r s
+  pub same_listed : {text : List ℕ} {q : ListKind} {b : Bool} {ts r s : List Token} {a e f : Expr} {da d c : ℕ} → ListedBy text q b ts a da e d r → ListedBy text q b ts a da f c s → Same e f d c r s
   same_listed alone alone = it _ _ _
   same_listed {text = text} {q = q} {a = a} {da = da} (several x) (several y) = made (λ es us. gathered q a es) (λ d. max da d + 1) (λ r. r) (same_list x y)
 
-  same_level : {text : List ℕ} {k : ℕ} {b : Bool} {o : Option Joint} {ts r s : List Token} {a e f : Expr} {da d c : ℕ} → LevelBy text k b o ts a da e d r → LevelBy text k b o ts a da f c s → Same e f d c r s
+  pub same_level : {text : List ℕ} {k : ℕ} {b : Bool} {o : Option Joint} {ts r s : List Token} {a e f : Expr} {da d c : ℕ} → LevelBy text k b o ts a da e d r → LevelBy text k b o ts a da f c s → Same e f d c r s
   same_level no_operator no_operator = it _ _ _
   same_level {text = text} (to_left {k = k} {o = o} {a = a} {da = da} x g) (to_left {rest = s} {e = f} {d = c} y h) =
       same_level g (moved (λ b db vs. LevelBy text k true (operator_at (suc k) vs) vs (joined o a b) (max da db + 1) f c s) (same x y) h)
   same_level {text = text} {a = a} {da = da}  (to_right {o = o} x) (to_right y) = made (λ b us. joined o a b) (λ d. max da d + 1) (λ r. r) (same x y)
 
-  same_operand : {text : List ℕ} {l : Lead} {ts r s : List Token} {e f : Expr} {d c : ℕ} → OperandBy text l ts e d r → OperandBy text l ts f c s → Same e f d c r s
+  pub same_operand : {text : List ℕ} {l : Lead} {ts r s : List Token} {e f : Expr} {d c : ℕ} → OperandBy text l ts e d r → OperandBy text l ts f c s → Same e f d c r s
   same_operand {text = text} (an_apply x) (an_apply y) = same x y
   same_operand (a_constructor x) (a_constructor y) = same_con x y
   same_operand {text = text} {ts = ts} (a_minus x) (a_minus y) = made (λ a us. node (first_span ts).start (end_of a) (E.Minus a)) (λ d. d + 1) (λ r. r) (same x y)

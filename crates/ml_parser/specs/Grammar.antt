@@ -268,7 +268,7 @@ mutual
         Reads text (part_of q) ts e d rest → ItemBy text (exprs q) ts e d rest
     -- `f = e`
     a_set_field : {ts rest : List Token} {e : Expr} {d : ℕ} →
-        front ts ≡ F.Lower → second ts ≡ F.Equal → Reads text tuple (drop 2 ts) e d rest →
+        front ts ≡ F.Lower → second ts ≡ F.Equal → Reads text tuple (drop 1 (drop 1 ts)) e d rest →
         ItemBy text fields ts (field (first_span ts) e) d rest
     -- `f`
     a_pun : {ts : List Token} →

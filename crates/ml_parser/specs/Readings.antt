@@ -16,7 +16,7 @@ use Rattle.ml_parser.specs.declared.looks.Suffix.TheVariants as S
 use Rattle.ml_parser.specs.declared.looks.Joint.{Joint}
 use Rattle.ml_parser.specs.Looks.{is_colon, is_else, operator_at, groups_left}
 use Rattle.ml_parser.specs.Trees.{node, start_of, joined}
-use Rattle.ml_parser.specs.Grammar.{Kind, ItemOf, operators, tuple, seq, Reads, LevelBy, ElseBy, GuardBy, ResultBy, Lists}
+use Rattle.ml_parser.specs.Grammar.{Kind, ItemOf, operators, tuple, seq, Reads, LevelBy, ElseBy, GuardBy, ResultBy, HasType, Lists}
 
 -- one of at most the depth that is left was read
 pub record IsRead {A : Type 0} (P : A → ℕ → List Token → Type 0) (left : ℕ) (x : A) (d : ℕ) (rest : List Token) : Type 0 where
@@ -64,6 +64,14 @@ pub data OneSuffix (text : List ℕ) (a : Expr) (da : ℕ) : Suffix → List Tok
   one_index : {ts us rest : List Token} {i : Expr} {d : ℕ} {s : Span} →
       Reads text seq (drop 1 (drop 1 ts)) i d us → Takes F.CloseBracket us rest s →
       OneSuffix text a da S.Index ts (node (start_of a) s.end (E.Index a i)) (max da d + 1) rest
+
+-- behind the sequence of parentheses that begin at a place: `)`, or `: type )`
+pub data ClosesParens (from : ℕ) (e : Expr) : List Token → Expr → List Token → Type 0 where
+  closes_paren : {ts rest : List Token} {s : Span} →
+      Takes F.CloseParen ts rest s → ClosesParens from e ts (node from s.end (E.Paren e)) rest
+  closes_typed : {ts us vs rest : List Token} {t : TyExpr} {c s : Span} →
+      Takes F.Colon ts us c → HasType us t vs → Takes F.CloseParen vs rest s →
+      ClosesParens from e ts (node from s.end (E.Typed e t)) rest
 
 -- `[: type] =`
 pub data Results : List Token → Option TyExpr → List Token → Type 0 where
