@@ -1,5 +1,8 @@
-mod Unique
-mod Places
+mod Chains
 mod Depths
-mod Refusals
 mod Founds
+mod ListReadings
+mod Places
+mod Refusals
+mod TextTokens
+mod Unique
