@@ -2,6 +2,7 @@ mod Chains
 mod Depths
 mod Founds
 mod ListReadings
+mod ParamReadings
 mod Places
 mod Refusals
 mod TextTokens
