@@ -86,7 +86,7 @@ fn read_names(
     left: u32,
 ) -> Result<TypeFound, ParseErr> {
     let mut found = atom;
-    'names: while is_name(front_at(tokens, *at)) {
+    'names: while is_name(tokens, *at) {
         if found.depth >= left {
             return Err(ParseErr::Refused(refusal_at(tokens, *at)));
         }
@@ -112,7 +112,7 @@ fn grouped(
             None => unreachable!(),
         };
     }
-    if !is_name(front_at(tokens, *at)) {
+    if !is_name(tokens, *at) {
         return Err(ParseErr::Refused(refusal_at(tokens, *at)));
     }
     let name = span_at(tokens, *at);
@@ -183,7 +183,7 @@ fn read_atom(
     if left == 0 {
         return Err(ParseErr::Refused(refusal_at(tokens, *at)));
     }
-    match type_start(front_at(tokens, *at)) {
+    match type_start(tokens, *at) {
         TypeStart::Variable => Ok(variable(tokens, at)),
         TypeStart::Named => Ok(bare_name(alloc, tokens, at)),
         TypeStart::Group => read_group(alloc, tokens, at, left - 1),
@@ -244,7 +244,7 @@ fn read_list(
         let found = read_part(alloc, tokens, at, row, left)?;
         depth = depth.max(found.depth);
         list.push(found.ty)?;
-        match behind_part(row, front_at(tokens, *at)) {
+        match behind_part(row, tokens, *at) {
             After::Goes => pass(tokens, at),
             After::Ends(tail) => {
                 skip(tokens, at, tail);
@@ -283,7 +283,7 @@ fn read_arrow(
     product: TypeFound,
     left: u32,
 ) -> Result<SideFound, ParseErr> {
-    if !is_arrow(front_at(tokens, *at)) {
+    if !is_arrow(tokens, *at) {
         return Ok(SideFound {
             arg: make_arg(words, product.ty),
             depth: product.depth,
@@ -320,6 +320,9 @@ pub fn read_type(
     tokens: &[Token],
     at: &mut usize,
     row: Row,
-) -> Result<TyExpr, ParseErr> {
+) -> Result<TyExpr, ParseErr>
+    ensures ok { IfOk result (λ t. ReadsType row (drop at.old tokens.now) (got t (drop at.new tokens.now))) }
+    ensures err { IfErr result (Says tokens.now (IsNone (ReadsType row) (drop at.old tokens.now))) }
+{
     Ok(read_whole(alloc, tokens, at, row, MAX_DEPTH)?.ty)
 }
