@@ -3,4 +3,7 @@ pub mod ItemLists
 pub mod ModeWords
 mod Relays
 pub mod Shorter
+mod TypeLists
+mod TypeNodes
+mod TypeParts
 pub mod Unique
