@@ -21,7 +21,7 @@ use Rattle.ml_cursor.specs.Places.{first_span}
 use Rattle.ml_parse_types.specs.declared.looks.VarsStart.{VarsStart}
 use Rattle.ml_parse_types.specs.declared.looks.BodyStart.{BodyStart}
 use Rattle.ml_parse_types.specs.Looks.{body_start}
-use Rattle.ml_parse_types.specs.Decls.{ReadsItems, items, ItemsBy, last_item, next_item, ReadsVar, a_var, VarsBy, no_vars, one_var, some_vars, ReadsArg, con_arg, ArgsBy, no_args, some_args, a_con, ReadsCon, con, a_field, ReadsField, field, BodyBy, barred, variant, fields, alias, a_decl, ReadsDecl, decl}
+use Rattle.ml_parse_types.specs.Decls.{ReadsItems, items, ItemsBy, last_item, next_item, ReadsVar, a_var, VarsBy, no_vars, one_var, some_vars, ReadsArg, con_arg, ArgsBy, no_args, some_args, a_con, ReadsCon, con, a_field, ReadsField, field, BodyBy, barred, variant, fields, alias, a_decl, ReadsDecl, decl, decl_behind}
 use Rattle.ml_parse_types.specs.Looks.{type_start, is_name, is_arrow, behind_part, no_words}
 use Rattle.ml_parse_types.specs.Types.{Got, got, Read, read, ReadsType, WordsBy, words_end, word_more, ReadsWords, an_arg, an_arrow, product, group, NamesBy, no_name, one_name, AtomBy, a_variable, a_name, a_group, ReadsOperand, operand, ReadsPart, alone, factor, argument, ReadsList, row, ListBy, the_last, one_more, ReadsSide, side, SideBy, no_arrow, to_arrow}
 
@@ -37,7 +37,7 @@ some-some : {A : Type 0} {a b : A} → Some a ≡ Some b → a ≡ b
 some-some h = cc
 
 -- the type of a side
-abbrev unworded : Read Arg → Read TyExpr
+abbrev pub unworded : Read Arg → Read TyExpr
 unworded o = read (out-Arg o.value).ty o.depth o.rest
 
 mutual
@@ -69,8 +69,8 @@ mutual
   same_side (side {k = k} {ts = ts} {l = l} {o = o} v a f) (side {w = w} u b g) =
       let e = same_words v u in
       let h = same_list (subst (λ (x : Got Words). ReadsList k x.rest l) e a) b in
-      let f1 = subst (λ (x : Got Words). SideBy k (is_arrow (front l.rest)) ts x.value (product x.rest l) o) e f in
-      same_side_by (subst (λ (x : Read (List TyExpr)). SideBy k (is_arrow (front x.rest)) ts w.value (product w.rest x) o) h f1) g
+      let f1 = subst (λ (x : Got Words). SideBy k (is_arrow (front (product x.rest l).rest)) ts x.value (product x.rest l) o) e f in
+      same_side_by (subst (λ (x : Read (List TyExpr)). SideBy k (is_arrow (front (product w.rest x).rest)) ts w.value (product w.rest x) o) h f1) g
 
   pub same_side_by : {k : Row} {w : Bool} {ts : List Token} {v : Words} {q : Read TyExpr} {o p : Read Arg} → SideBy k w ts v q o → SideBy k w ts v q p → o ≡ p
   same_side_by no_arrow no_arrow = refl
@@ -131,3 +131,6 @@ same_decl ts o p (decl {v = v} {b = a} x e f s) (decl {v = w} {b = b} y g h r) =
     let q = same_vars x y in
     let i = same_body (subst (λ (x : Got (List Span)). BodyBy (body_start (front (drop 1 (drop 1 x.rest)))) (drop 1 (drop 1 x.rest)) a) q s) r in
     ap (λ (x : Got (List Span)). got (a_decl (first_span x.rest) x.value a.value) a.rest) q ∙ ap (λ (x : Got DeclBody). got (a_decl (first_span w.rest) w.value x.value) x.rest) i
+
+pub same_decls : IsOneThing (ReadsItems ReadsDecl decl_behind)
+same_decls ts o p a b = same_items same_decl a b

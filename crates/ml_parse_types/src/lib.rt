@@ -2,6 +2,7 @@
 #![tactic(auto)]
 
 mod decls;
+pub mod laws;
 mod looks;
 mod make;
 #[cfg(test)]
