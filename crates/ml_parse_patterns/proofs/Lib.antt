@@ -5,5 +5,6 @@ mod ListReadings
 mod ParamReadings
 mod Places
 mod Refusals
+mod Shorter
 mod TextTokens
 mod Unique
