@@ -1,5 +1,10 @@
-mod Unique
-mod Places
+mod Chains
 mod Depths
-mod Refusals
 mod Founds
+mod ListReadings
+mod ParamReadings
+mod Places
+mod Refusals
+mod Shorter
+mod TextTokens
+mod Unique

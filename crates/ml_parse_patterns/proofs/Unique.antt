@@ -55,7 +55,7 @@ joined {x = x} {z = z} {s = s} m g a b = record {
   rest = b.rest;
 }
 
-one_words : {ts us vs : List Token} {w x : Words} → ReadsWords ts (got w us) → ReadsWords ts (got x vs) → (x ≡ w) × (vs ≡ us)
+pub one_words : {ts us vs : List Token} {w x : Words} → ReadsWords ts (got w us) → ReadsWords ts (got x vs) → (x ≡ w) × (vs ≡ us)
 one_words a b =
     let e = same_words a b in
     (sym (ap (λ (o : Got Words). o.value) e), sym (ap (λ (o : Got Words). o.rest) e))

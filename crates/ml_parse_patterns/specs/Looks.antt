@@ -22,7 +22,7 @@ use Rattle.ml_parse_patterns.specs.declared.looks.After.TheVariants.{Goes, Stops
 use Rattle.ml_parse_patterns.specs.declared.looks.AfterField.{AfterField}
 use Rattle.ml_parse_patterns.specs.declared.looks.AfterField.TheVariants.{Next, Ends, Broken}
 use Rattle.ml_parse_patterns.specs.declared.looks.ParamLead.{ParamLead}
-use Rattle.ml_parse_patterns.specs.declared.looks.ParamLead.TheVariants.{NoParam, Short, Parens}
+use Rattle.ml_parse_patterns.specs.declared.looks.ParamLead.TheVariants.{Absent, Short, Parens}
 
 -- a node of the tokens from one list on up to another, its number not given yet
 abbrev pub node : List Token → List Token → PatKind → Pat
@@ -140,12 +140,12 @@ abbrev pub param_lead_by : Front → List Token → ParamLead
 param_lead_by Front.Lower ts = Short (Bound (first_span ts)) 1
 param_lead_by Front.Underscore ts = Short Any 1
 param_lead_by Front.OpenParen ts = parens_by (front (drop 1 ts))
-param_lead_by _ ts = NoParam
+param_lead_by _ ts = Absent
 
 -- what the parameter is that begins a list of tokens
 unfoldable pub param_lead : List Token → ParamLead
 param_lead ts = param_lead_by (front ts) ts
 
 abbrev pub is_param : ParamLead → Bool
-is_param NoParam = false
+is_param Absent = false
 is_param _ = true

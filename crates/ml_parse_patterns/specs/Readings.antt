@@ -39,6 +39,12 @@ pub record IsAnnotation (tokens ts rest : List Token) (a : Annotation) : Type 0 
 pub record NoAnnotation (ts : List Token) : Type 0 where
   pub none : (t : TyExpr) (us : List Token) → ReadsType Factors (drop 1 ts) (got t us) → front us ≡ CloseParen → ⊥
 
+-- behind the pattern first, which begins at start, stand a type and `)`, and rest behind them
+pub record HasType (tokens start here rest : List Token) (first f : Found) : Type 0 where
+  pub annotation : Annotation
+  pub reads : IsAnnotation tokens here rest annotation
+  pub node_is : IsNode start (drop annotation.end tokens) (Kind.Typed first.pat annotation.ty) (first.depth + 1) f
+
 -- the pattern of a level at the front of ts, before rest, of at most this depth
 pub record IsFound (text : List ℕ) (level : Level) (left : ℕ) (ts rest : List Token) (f : Found) : Type 0 where
   pub reads : Reads text level ts f.pat f.depth rest

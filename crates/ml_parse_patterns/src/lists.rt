@@ -124,7 +124,7 @@ pub fn read_fields(
     let mut deepest = 0;
     'fields: loop {
         let one = read_field(alloc, text, tokens, at, left)?;
-        deepest = one.depth.max(deepest);
+        deepest = deepest.max(one.depth);
         list.push(one.field)?;
         match after_field_at(tokens, *at) {
             AfterField::Next => pass_all(tokens, at, 1),

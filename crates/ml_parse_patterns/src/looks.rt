@@ -87,7 +87,7 @@ pub enum AfterField {
 #[derive(Clone, Copy)]
 pub enum ParamLead {
     /// No parameter begins here.
-    NoParam,
+    Absent,
     /// A leaf, and the number of its tokens.
     Short(Leaf, usize),
     /// `(` of a parameter in parentheses.
@@ -290,14 +290,14 @@ pub fn param_lead_at(tokens: &[Token], at: usize) -> ParamLead
         Front::Lower => ParamLead::Short(Leaf::Bound(span_at(tokens, at)), 1),
         Front::Underscore => ParamLead::Short(Leaf::Any, 1),
         Front::OpenParen => behind_open(front_behind(tokens, at, 1)),
-        _ => ParamLead::NoParam,
+        _ => ParamLead::Absent,
     }
 }
 
 fn is_param(lead: ParamLead) -> bool
     ensures { result ≡ is_param lead }
 {
-    !matches!(lead, ParamLead::NoParam)
+    !matches!(lead, ParamLead::Absent)
 }
 
 /// Whether a parameter begins at a place.

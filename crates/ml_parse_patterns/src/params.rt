@@ -1,9 +1,9 @@
-ghost use Rattle.std.specs.Prelude.{◌≡◌, drop, All, List, ℕ, IfOk, IfErr};
+ghost use Rattle.std.specs.Prelude.{◌≡◌, ◌+◌, ◌^◌, ◌<◌, drop, All, List, ℕ, IfOk, IfErr};
 ghost use Rattle.ml_lexer.specs.Tokens.{IsSound};
 ghost use Rattle.ml_cursor.specs.Says.{Says};
 ghost use Rattle.ml_parse_patterns.specs.declared.looks.ParamLead.TheVariants.{Short, Parens};
 ghost use Rattle.ml_parse_patterns.specs.Looks.{param_lead};
-ghost use Rattle.ml_parse_patterns.specs.Readings.{IsParam, NoParam, AreParams, NoParams};
+ghost use Rattle.ml_parse_patterns.specs.Readings.{NoAnnotation, HasType, IsParam, NoParam, AreParams, NoParams};
 
 use crate::found::{Found, FoundParam, FoundParams};
 use crate::levels::read_pattern;
@@ -47,6 +47,16 @@ fn found(words: Words, read: Found) -> FoundParam
     }
 }
 
+/// Reads the type and the `)` behind a pattern which begins at `from`; the node ends with the type.
+fn add_type(alloc: Global, tokens: &[Token], at: &mut usize, from: usize, inner: Found) -> Result<Found, ParseErr>
+    requires { inner.depth + 1 < 2 ^ 32 }
+    ensures ok { IfOk result (HasType tokens.now (drop from tokens.now) (drop at.old tokens.now) (drop at.new tokens.now) inner) }
+    ensures err { IfErr result (Says tokens.now (NoAnnotation (drop at.old tokens.now))) }
+{
+    let read = read_annotation(alloc, tokens, at)?;
+    Ok(typed(alloc, tokens, from, read.end, inner, read.ty)?)
+}
+
 /// Reads a parameter in parentheses, which belong to it and make no node.
 fn read_parens(
     alloc: Global,
@@ -69,9 +79,11 @@ fn read_parens(
             pass(tokens, at);
             Ok(found(words, inner))
         }
-        Front::Colon if inner.depth < left => {
-            let read = read_annotation(alloc, tokens, at)?;
-            Ok(found(words, typed(alloc, tokens, from, read.end, inner, read.ty)?))
+        Front::Colon => {
+            if inner.depth >= left {
+                return Err(ParseErr::Refused(give_up(tokens, *at, inner)));
+            }
+            Ok(found(words, add_type(alloc, tokens, at, from, inner)?))
         }
         _ => Err(ParseErr::Refused(give_up(tokens, *at, inner))),
     }
@@ -93,7 +105,7 @@ pub fn read_param(
         return Err(ParseErr::Refused(refusal_at(tokens, *at)));
     }
     match param_lead_at(tokens, *at) {
-        ParamLead::NoParam => Err(ParseErr::Refused(refusal_at(tokens, *at))),
+        ParamLead::Absent => Err(ParseErr::Refused(refusal_at(tokens, *at))),
         ParamLead::Short(leaf, width) => Ok(read_short(tokens, at, leaf, width)),
         ParamLead::Parens => read_parens(alloc, text, tokens, at, left),
     }
@@ -115,7 +127,7 @@ pub fn read_params(
     let mut deepest = 0;
     'params: loop {
         let one = read_param(alloc, text, tokens, at, left)?;
-        deepest = one.depth.max(deepest);
+        deepest = deepest.max(one.depth);
         list.push(one.param)?;
         if !begins_param(tokens, *at) {
             return Ok(FoundParams {

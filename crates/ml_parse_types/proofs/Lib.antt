@@ -1,3 +1,9 @@
+mod DeclParts
+pub mod ItemLists
 pub mod ModeWords
+mod Relays
 pub mod Shorter
+mod TypeLists
+mod TypeNodes
+mod TypeParts
 pub mod Unique

@@ -37,7 +37,7 @@ some-some : {A : Type 0} {a b : A} → Some a ≡ Some b → a ≡ b
 some-some h = cc
 
 -- the type of a side
-abbrev unworded : Read Arg → Read TyExpr
+abbrev pub unworded : Read Arg → Read TyExpr
 unworded o = read (out-Arg o.value).ty o.depth o.rest
 
 mutual
@@ -69,8 +69,8 @@ mutual
   same_side (side {k = k} {ts = ts} {l = l} {o = o} v a f) (side {w = w} u b g) =
       let e = same_words v u in
       let h = same_list (subst (λ (x : Got Words). ReadsList k x.rest l) e a) b in
-      let f1 = subst (λ (x : Got Words). SideBy k (is_arrow (front l.rest)) ts x.value (product x.rest l) o) e f in
-      same_side_by (subst (λ (x : Read (List TyExpr)). SideBy k (is_arrow (front x.rest)) ts w.value (product w.rest x) o) h f1) g
+      let f1 = subst (λ (x : Got Words). SideBy k (is_arrow (front (product x.rest l).rest)) ts x.value (product x.rest l) o) e f in
+      same_side_by (subst (λ (x : Read (List TyExpr)). SideBy k (is_arrow (front (product w.rest x).rest)) ts w.value (product w.rest x) o) h f1) g
 
   pub same_side_by : {k : Row} {w : Bool} {ts : List Token} {v : Words} {q : Read TyExpr} {o p : Read Arg} → SideBy k w ts v q o → SideBy k w ts v q p → o ≡ p
   same_side_by no_arrow no_arrow = refl

@@ -51,6 +51,9 @@ pub data VarsBy : VarsStart → List Token → Got (List Span) → Type 0 where
   some_vars : {ts : List Token} {l : Got (List Span)} →
       ReadsItems ReadsVar var_behind (drop 1 ts) l → VarsBy VarGroup ts l
 
+abbrev pub ReadsVars : List Token → Got (List Span) → Type 0
+ReadsVars ts o = VarsBy (vars_start (front ts)) ts o
+
 -- an arg of a constructor: words, which belong to the whole arg, and a type without `*`
 pub data ReadsArg : List Token → Got Arg → Type 0 where
   con_arg : {ts : List Token} {w : Got Words} {t : Got TyExpr} →
@@ -65,12 +68,15 @@ pub data ArgsBy : Bool → List Token → Got (List Arg) → Type 0 where
   some_args : {ts : List Token} {l : Got (List Arg)} →
       ReadsItems ReadsArg arg_behind (drop 1 ts) l → ArgsBy true ts l
 
+abbrev pub ReadsArgs : List Token → Got (List Arg) → Type 0
+ReadsArgs ts o = ArgsBy (is_of (front ts)) ts o
+
 abbrev pub a_con : Span → List Arg → ConDecl
 a_con name args = record { name = name; args = args }
 
 pub data ReadsCon : List Token → Got ConDecl → Type 0 where
   con : {ts : List Token} {l : Got (List Arg)} →
-      front ts ≡ F.Upper → ArgsBy (is_of (front (drop 1 ts))) (drop 1 ts) l →
+      front ts ≡ F.Upper → ReadsArgs (drop 1 ts) l →
       ReadsCon ts (got (a_con (first_span ts) l.value) l.rest)
 
 abbrev pub con_behind : List Token → After
@@ -100,14 +106,17 @@ pub data BodyBy : BodyStart → List Token → Got DeclBody → Type 0 where
   alias : {ts : List Token} {t : Got TyExpr} →
       ReadsType Factors ts t → BodyBy Other ts (got (Alias t.value) t.rest)
 
+abbrev pub ReadsBody : List Token → Got DeclBody → Type 0
+ReadsBody ts o = BodyBy (body_start (front ts)) ts o
+
 abbrev pub a_decl : Span → List Span → DeclBody → Decl
 a_decl name vars body = record { name = name; vars = vars; body = body }
 
 -- one declaration
 pub data ReadsDecl : List Token → Got Decl → Type 0 where
   decl : {ts : List Token} {v : Got (List Span)} {b : Got DeclBody} →
-      VarsBy (vars_start (front ts)) ts v → front v.rest ≡ F.Lower → front (drop 1 v.rest) ≡ F.Equal →
-      BodyBy (body_start (front (drop 1 (drop 1 v.rest)))) (drop 1 (drop 1 v.rest)) b →
+      ReadsVars ts v → front v.rest ≡ F.Lower → front (drop 1 v.rest) ≡ F.Equal →
+      ReadsBody (drop 1 (drop 1 v.rest)) b →
       ReadsDecl ts (got (a_decl (first_span v.rest) v.value b.value) b.rest)
 
 abbrev pub decl_behind : List Token → After

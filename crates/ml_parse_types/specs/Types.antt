@@ -88,13 +88,19 @@ group_by ts l _ = arguments_by ts l (is_name (front l.rest))
 abbrev pub group : List Token → Read (List TyExpr) → Option (Read TyExpr)
 group ts l = group_by ts l l.value
 
--- behind the type a, which begins at ts: the names that are applied to it, one by one
+-- the name behind the type a, which begins at ts, applied to it
+abbrev pub postfix : List Token → Read TyExpr → Read TyExpr
+postfix ts a =
+    read (applied (extent ts (drop 1 a.rest)) (first_span a.rest) (a.value ∷ [])) (suc a.depth) (drop 1 a.rest)
+
+-- all the names behind the type a, which begins at ts, applied one by one
 pub data NamesBy (ts : List Token) : Bool → Read TyExpr → Read TyExpr → Type 0 where
   no_name : {a : Read TyExpr} → NamesBy ts false a a
   one_name : {a o : Read TyExpr} →
-      NamesBy ts (is_name (front (drop 1 a.rest)))
-          (read (applied (extent ts (drop 1 a.rest)) (first_span a.rest) (a.value ∷ [])) (suc a.depth) (drop 1 a.rest)) o →
-      NamesBy ts true a o
+      NamesBy ts (is_name (front (drop 1 a.rest))) (postfix ts a) o → NamesBy ts true a o
+
+abbrev pub NamesFrom : List Token → Read TyExpr → Read TyExpr → Type 0
+NamesFrom ts a o = NamesBy ts (is_name (front a.rest)) a o
 
 mutual
   -- a variable, a name, or what stands in parentheses
@@ -107,7 +113,7 @@ mutual
   -- an atom with the names behind it
   pub data ReadsOperand : List Token → Read TyExpr → Type 0 where
     operand : {ts : List Token} {a o : Read TyExpr} →
-        AtomBy (type_start (front ts)) ts a → NamesBy ts (is_name (front a.rest)) a o → ReadsOperand ts o
+        AtomBy (type_start (front ts)) ts a → NamesFrom ts a o → ReadsOperand ts o
 
   -- a part of a row: an operand, or a whole type among arguments
   pub data ReadsPart : Row → List Token → Read TyExpr → Type 0 where
@@ -134,7 +140,7 @@ mutual
   pub data ReadsSide : Row → List Token → Read Arg → Type 0 where
     side : {k : Row} {ts : List Token} {w : Got Words} {l : Read (List TyExpr)} {o : Read Arg} →
         ReadsWords ts w → ReadsList k w.rest l →
-        SideBy k (is_arrow (front l.rest)) ts w.value (product w.rest l) o → ReadsSide k ts o
+        SideBy k (is_arrow (front (product w.rest l).rest)) ts w.value (product w.rest l) o → ReadsSide k ts o
 
   -- behind the words and the product that a side begins with
   pub data SideBy : Row → Bool → List Token → Words → Read TyExpr → Read Arg → Type 0 where
@@ -144,6 +150,9 @@ mutual
         ReadsSide k (drop 1 p.rest) a →
         SideBy k true ts w p
             (read (an_arg no_words (an_arrow (extent ts a.rest) (an_arg w p.value) a.value)) (suc (max p.depth a.depth)) a.rest)
+
+abbrev pub SideFrom : Row → List Token → Words → Read TyExpr → Read Arg → Type 0
+SideFrom k ts w p o = SideBy k (is_arrow (front p.rest)) ts w p o
 
 -- a type is a side without words of its own
 abbrev pub ReadsTypeOf : Row → List Token → TyExpr → ℕ → List Token → Type 0

@@ -2,9 +2,9 @@ ghost use Rattle.std.specs.Prelude.{◌≡◌, drop, IfOk, IfErr};
 ghost use Rattle.ml_cursor.specs.Fronts.{front};
 ghost use Rattle.ml_cursor.specs.Says.{Says};
 ghost use Rattle.ml_parse_types.specs.declared.looks.Row.TheVariants.{Alone, Factors};
-ghost use Rattle.ml_parse_types.specs.Looks.{is_of, vars_start, body_start};
+ghost use Rattle.ml_parse_types.specs.declared.looks.VarsStart.TheVariants.{OneVar};
 ghost use Rattle.ml_parse_types.specs.Types.{got, ReadsType};
-ghost use Rattle.ml_parse_types.specs.Decls.{ReadsItems, ReadsVar, var_behind, VarsBy, ReadsArg, arg_behind, ArgsBy, ReadsCon, con_behind, ReadsField, field_behind, BodyBy, ReadsDecl, ReadsDecls, decl_behind};
+ghost use Rattle.ml_parse_types.specs.Decls.{ReadsItems, ReadsVar, var_behind, VarsBy, ReadsVars, ReadsArg, arg_behind, ReadsArgs, ReadsCon, con_behind, ReadsField, field_behind, ReadsBody, ReadsDecl, ReadsDecls, decl_behind};
 ghost use Rattle.ml_parse_types.specs.Readers.{IsNone};
 
 use crate::looks::{
@@ -14,22 +14,34 @@ use crate::looks::{
 use crate::make::make_arg;
 use crate::types::read_type;
 use crate::words::read_words;
-use ml_cursor::{Front, ParseErr, front_at, pass, refusal_at, skip, take};
+use ml_cursor::{Front, ParseErr, front_at, pass, refusal_at, skip, span_at, take};
 use ml_lexer::Token;
 use ml_tree::{Arg, ConDecl, Decl, DeclBody, FieldDecl};
 use oxml_base::{Items, Span};
 use std::alloc::Global;
 
+/// One variable of several.
+fn read_var(tokens: &[Token], at: &mut usize) -> Result<Span, ParseErr>
+    ensures ok { IfOk result (λ v. ReadsVar (drop at.old tokens.now) (got v (drop at.new tokens.now))) }
+    ensures err { IfErr result (Says tokens.now (IsNone ReadsVar (drop at.old tokens.now))) }
+{
+    take(tokens, at, Front::TypeVar)
+}
+
 /// Variables with `,` between them, up to a `)`.
+#[tactic(auto, using(crate::proofs::ItemLists::items_none, crate::proofs::ItemLists::items_more, crate::proofs::ItemLists::items_end, crate::proofs::ItemLists::items_shorter, crate::proofs::Unique::same_var, crate::proofs::Shorter::var_rest))]
 fn read_vars(
     alloc: Global,
     tokens: &[Token],
     at: &mut usize,
-) -> Result<Items<Span>, ParseErr> {
+) -> Result<Items<Span>, ParseErr>
+    ensures ok { IfOk result (λ l. ReadsItems ReadsVar var_behind (drop at.old tokens.now) (got l (drop at.new tokens.now))) }
+    ensures err { IfErr result (Says tokens.now (IsNone (ReadsItems ReadsVar var_behind) (drop at.old tokens.now))) }
+{
     let mut list = Items::new(alloc);
     'vars: loop {
-        list.push(take(tokens, at, Front::TypeVar)?)?;
-        match behind_var(front_at(tokens, *at)) {
+        list.push(read_var(tokens, at)?)?;
+        match behind_var(tokens, *at) {
             After::Goes => pass(tokens, at),
             After::Ends(tail) => {
                 skip(tokens, at, tail);
@@ -40,19 +52,29 @@ fn read_vars(
     }
 }
 
-fn one_var(alloc: Global, tokens: &[Token], at: &mut usize) -> Result<Items<Span>, ParseErr> {
+/// The one variable at a place.
+#[tactic(auto, using(crate::proofs::DeclParts::a_lone_var))]
+fn one_var(alloc: Global, tokens: &[Token], at: &mut usize) -> Result<Items<Span>, ParseErr>
+    ensures ok { IfOk result (λ l. VarsBy OneVar (drop at.old tokens.now) (got l (drop at.new tokens.now))) }
+    ensures err { IfErr result (λ e. e ≡ ParseErr.NoMemory) }
+{
     let mut list = Items::new(alloc);
-    list.push(take(tokens, at, Front::TypeVar)?)?;
+    list.push(span_at(tokens, *at))?;
+    pass(tokens, at);
     Ok(list)
 }
 
 /// The variables in front of a declared name.
+#[tactic(auto, using(crate::proofs::DeclParts::vars_none, crate::proofs::DeclParts::vars_one, crate::proofs::DeclParts::vars_many))]
 fn read_variables(
     alloc: Global,
     tokens: &[Token],
     at: &mut usize,
-) -> Result<Items<Span>, ParseErr> {
-    match vars_start(front_at(tokens, *at)) {
+) -> Result<Items<Span>, ParseErr>
+    ensures ok { IfOk result (λ o. ReadsVars (drop at.old tokens.now) (got o (drop at.new tokens.now))) }
+    ensures err { IfErr result (Says tokens.now (IsNone ReadsVars (drop at.old tokens.now))) }
+{
+    match vars_start(tokens, *at) {
         VarsStart::NoVars => Ok(Items::new(alloc)),
         VarsStart::OneVar => one_var(alloc, tokens, at),
         VarsStart::VarGroup => {
@@ -63,18 +85,26 @@ fn read_variables(
 }
 
 /// An arg of a constructor.
-fn read_arg(alloc: Global, tokens: &[Token], at: &mut usize) -> Result<Arg, ParseErr> {
+#[tactic(auto, using(crate::proofs::DeclParts::arg_read))]
+fn read_arg(alloc: Global, tokens: &[Token], at: &mut usize) -> Result<Arg, ParseErr>
+    ensures ok { IfOk result (λ o. ReadsArg (drop at.old tokens.now) (got o (drop at.new tokens.now))) }
+    ensures err { IfErr result (Says tokens.now (IsNone ReadsArg (drop at.old tokens.now))) }
+{
     let words = read_words(tokens, at)?;
     let ty = read_type(alloc, tokens, at, Row::Alone)?;
     Ok(make_arg(words, ty))
 }
 
 /// Args with `*` between them.
-fn read_args(alloc: Global, tokens: &[Token], at: &mut usize) -> Result<Items<Arg>, ParseErr> {
+#[tactic(auto, using(crate::proofs::ItemLists::items_none, crate::proofs::ItemLists::items_more, crate::proofs::ItemLists::items_end, crate::proofs::ItemLists::items_shorter, crate::proofs::Unique::same_arg, crate::proofs::Shorter::arg_rest))]
+fn read_args(alloc: Global, tokens: &[Token], at: &mut usize) -> Result<Items<Arg>, ParseErr>
+    ensures ok { IfOk result (λ o. ReadsItems ReadsArg arg_behind (drop at.old tokens.now) (got o (drop at.new tokens.now))) }
+    ensures err { IfErr result (Says tokens.now (IsNone (ReadsItems ReadsArg arg_behind) (drop at.old tokens.now))) }
+{
     let mut list = Items::new(alloc);
     'args: loop {
         list.push(read_arg(alloc, tokens, at)?)?;
-        match behind_factor(front_at(tokens, *at)) {
+        match behind_factor(tokens, *at) {
             After::Goes => pass(tokens, at),
             After::Ends(tail) => {
                 skip(tokens, at, tail);
@@ -86,34 +116,46 @@ fn read_args(alloc: Global, tokens: &[Token], at: &mut usize) -> Result<Items<Ar
 }
 
 /// What stands behind the name of a constructor.
+#[tactic(auto, using(crate::proofs::DeclParts::args_none, crate::proofs::DeclParts::args_many))]
 fn read_con_args(
     alloc: Global,
     tokens: &[Token],
     at: &mut usize,
-) -> Result<Items<Arg>, ParseErr> {
-    if !is_of(front_at(tokens, *at)) {
+) -> Result<Items<Arg>, ParseErr>
+    ensures ok { IfOk result (λ o. ReadsArgs (drop at.old tokens.now) (got o (drop at.new tokens.now))) }
+    ensures err { IfErr result (Says tokens.now (IsNone ReadsArgs (drop at.old tokens.now))) }
+{
+    if !is_of(tokens, *at) {
         return Ok(Items::new(alloc));
     }
     pass(tokens, at);
     read_args(alloc, tokens, at)
 }
 
-fn read_con(alloc: Global, tokens: &[Token], at: &mut usize) -> Result<ConDecl, ParseErr> {
+#[tactic(auto, using(crate::proofs::DeclParts::con_read))]
+fn read_con(alloc: Global, tokens: &[Token], at: &mut usize) -> Result<ConDecl, ParseErr>
+    ensures ok { IfOk result (λ o. ReadsCon (drop at.old tokens.now) (got o (drop at.new tokens.now))) }
+    ensures err { IfErr result (Says tokens.now (IsNone ReadsCon (drop at.old tokens.now))) }
+{
     let name = take(tokens, at, Front::Upper)?;
     let args = read_con_args(alloc, tokens, at)?;
     Ok(ConDecl { name, args })
 }
 
 /// Constructors with `|` between them.
+#[tactic(auto, using(crate::proofs::ItemLists::items_none, crate::proofs::ItemLists::items_more, crate::proofs::ItemLists::items_end, crate::proofs::ItemLists::items_shorter, crate::proofs::Unique::same_con, crate::proofs::Shorter::con_rest))]
 fn read_cons(
     alloc: Global,
     tokens: &[Token],
     at: &mut usize,
-) -> Result<Items<ConDecl>, ParseErr> {
+) -> Result<Items<ConDecl>, ParseErr>
+    ensures ok { IfOk result (λ o. ReadsItems ReadsCon con_behind (drop at.old tokens.now) (got o (drop at.new tokens.now))) }
+    ensures err { IfErr result (Says tokens.now (IsNone (ReadsItems ReadsCon con_behind) (drop at.old tokens.now))) }
+{
     let mut list = Items::new(alloc);
     'cons: loop {
         list.push(read_con(alloc, tokens, at)?)?;
-        match behind_con(front_at(tokens, *at)) {
+        match behind_con(tokens, *at) {
             After::Goes => pass(tokens, at),
             After::Ends(tail) => {
                 skip(tokens, at, tail);
@@ -124,7 +166,11 @@ fn read_cons(
     }
 }
 
-fn read_field(alloc: Global, tokens: &[Token], at: &mut usize) -> Result<FieldDecl, ParseErr> {
+#[tactic(auto, using(crate::proofs::DeclParts::field_read))]
+fn read_field(alloc: Global, tokens: &[Token], at: &mut usize) -> Result<FieldDecl, ParseErr>
+    ensures ok { IfOk result (λ o. ReadsField (drop at.old tokens.now) (got o (drop at.new tokens.now))) }
+    ensures err { IfErr result (Says tokens.now (IsNone ReadsField (drop at.old tokens.now))) }
+{
     let words = read_words(tokens, at)?;
     let name = take(tokens, at, Front::Lower)?;
     take(tokens, at, Front::Colon)?;
@@ -135,24 +181,20 @@ fn read_field(alloc: Global, tokens: &[Token], at: &mut usize) -> Result<FieldDe
     })
 }
 
-/// What stands behind a field.
-fn after_field(tokens: &[Token], at: usize) -> After {
-    let front = front_at(tokens, at);
-    let mut behind = at;
-    pass(tokens, &mut behind);
-    behind_field(front, front_at(tokens, behind))
-}
-
 /// Fields with `;` between them, up to a `}`.
+#[tactic(auto, using(crate::proofs::ItemLists::items_none, crate::proofs::ItemLists::items_more, crate::proofs::ItemLists::items_end, crate::proofs::ItemLists::items_shorter, crate::proofs::Unique::same_field, crate::proofs::Shorter::field_rest))]
 fn read_fields(
     alloc: Global,
     tokens: &[Token],
     at: &mut usize,
-) -> Result<Items<FieldDecl>, ParseErr> {
+) -> Result<Items<FieldDecl>, ParseErr>
+    ensures ok { IfOk result (λ o. ReadsItems ReadsField field_behind (drop at.old tokens.now) (got o (drop at.new tokens.now))) }
+    ensures err { IfErr result (Says tokens.now (IsNone (ReadsItems ReadsField field_behind) (drop at.old tokens.now))) }
+{
     let mut list = Items::new(alloc);
     'fields: loop {
         list.push(read_field(alloc, tokens, at)?)?;
-        match after_field(tokens, *at) {
+        match behind_field(tokens, *at) {
             After::Goes => pass(tokens, at),
             After::Ends(tail) => {
                 skip(tokens, at, tail);
@@ -164,8 +206,12 @@ fn read_fields(
 }
 
 /// What a declared name stands for.
-fn read_body(alloc: Global, tokens: &[Token], at: &mut usize) -> Result<DeclBody, ParseErr> {
-    match body_start(front_at(tokens, *at)) {
+#[tactic(auto, using(crate::proofs::DeclParts::body_barred, crate::proofs::DeclParts::body_variant, crate::proofs::DeclParts::body_fields, crate::proofs::DeclParts::body_alias))]
+fn read_body(alloc: Global, tokens: &[Token], at: &mut usize) -> Result<DeclBody, ParseErr>
+    ensures ok { IfOk result (λ o. ReadsBody (drop at.old tokens.now) (got o (drop at.new tokens.now))) }
+    ensures err { IfErr result (Says tokens.now (IsNone ReadsBody (drop at.old tokens.now))) }
+{
+    match body_start(tokens, *at) {
         BodyStart::Bar => {
             pass(tokens, at);
             Ok(DeclBody::Variant(read_cons(alloc, tokens, at)?))
@@ -180,7 +226,11 @@ fn read_body(alloc: Global, tokens: &[Token], at: &mut usize) -> Result<DeclBody
 }
 
 /// One declaration: `[vars] name = body`.
-fn read_decl(alloc: Global, tokens: &[Token], at: &mut usize) -> Result<Decl, ParseErr> {
+#[tactic(auto, using(crate::proofs::DeclParts::decl_read))]
+fn read_decl(alloc: Global, tokens: &[Token], at: &mut usize) -> Result<Decl, ParseErr>
+    ensures ok { IfOk result (λ o. ReadsDecl (drop at.old tokens.now) (got o (drop at.new tokens.now))) }
+    ensures err { IfErr result (Says tokens.now (IsNone ReadsDecl (drop at.old tokens.now))) }
+{
     let vars = read_variables(alloc, tokens, at)?;
     let name = take(tokens, at, Front::Lower)?;
     take(tokens, at, Front::Equal)?;
@@ -190,15 +240,19 @@ fn read_decl(alloc: Global, tokens: &[Token], at: &mut usize) -> Result<Decl, Pa
 
 /// The declarations of a `type` item, with `and` between them, and the place goes past them. The
 /// word `type` has been passed.
+#[tactic(auto, using(crate::proofs::ItemLists::items_none, crate::proofs::ItemLists::items_more, crate::proofs::ItemLists::items_end, crate::proofs::ItemLists::items_shorter, crate::proofs::Unique::same_decl, crate::proofs::Shorter::decl_rest))]
 pub fn read_decls(
     alloc: Global,
     tokens: &[Token],
     at: &mut usize,
-) -> Result<Items<Decl>, ParseErr> {
+) -> Result<Items<Decl>, ParseErr>
+    ensures ok { IfOk result (λ o. ReadsDecls (drop at.old tokens.now) (got o (drop at.new tokens.now))) }
+    ensures err { IfErr result (Says tokens.now (IsNone ReadsDecls (drop at.old tokens.now))) }
+{
     let mut list = Items::new(alloc);
     'decls: loop {
         list.push(read_decl(alloc, tokens, at)?)?;
-        match behind_decl(front_at(tokens, *at)) {
+        match behind_decl(tokens, *at) {
             After::Goes => pass(tokens, at),
             After::Ends(tail) => {
                 skip(tokens, at, tail);

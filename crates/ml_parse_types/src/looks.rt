@@ -54,10 +54,10 @@ pub enum BodyStart {
     Other,
 }
 
-pub fn type_start(front: Front) -> TypeStart
-    ensures { result ≡ type_start front }
+pub fn type_start(tokens: &[Token], at: usize) -> TypeStart
+    ensures { result ≡ type_start (front (drop at tokens.now)) }
 {
-    match front {
+    match front_at(tokens, at) {
         Front::TypeVar => TypeStart::Variable,
         Front::Lower => TypeStart::Named,
         Front::OpenParen => TypeStart::Group,
@@ -65,49 +65,49 @@ pub fn type_start(front: Front) -> TypeStart
     }
 }
 
-pub fn is_name(front: Front) -> bool
-    ensures { result ≡ is_name front }
+pub fn is_name(tokens: &[Token], at: usize) -> bool
+    ensures { result ≡ is_name (front (drop at tokens.now)) }
 {
-    match front {
+    match front_at(tokens, at) {
         Front::Lower => true,
         _ => false,
     }
 }
 
-pub fn is_arrow(front: Front) -> bool
-    ensures { result ≡ is_arrow front }
+pub fn is_arrow(tokens: &[Token], at: usize) -> bool
+    ensures { result ≡ is_arrow (front (drop at tokens.now)) }
 {
-    match front {
+    match front_at(tokens, at) {
         Front::Arrow => true,
         _ => false,
     }
 }
 
-pub fn is_of(front: Front) -> bool
-    ensures { result ≡ is_of front }
+pub fn is_of(tokens: &[Token], at: usize) -> bool
+    ensures { result ≡ is_of (front (drop at tokens.now)) }
 {
-    match front {
+    match front_at(tokens, at) {
         Front::Of => true,
         _ => false,
     }
 }
 
 /// What stands behind a part of a row of types.
-pub fn behind_part(row: Row, front: Front) -> After
-    ensures { result ≡ behind_part row front }
+pub fn behind_part(row: Row, tokens: &[Token], at: usize) -> After
+    ensures { result ≡ behind_part row (front (drop at tokens.now)) }
 {
     match row {
         Row::Alone => After::Ends(0),
-        Row::Factors => behind_factor(front),
-        Row::Arguments => behind_var(front),
+        Row::Factors => behind_factor(tokens, at),
+        Row::Arguments => behind_var(tokens, at),
     }
 }
 
 /// What stands behind one of several in parentheses.
-pub fn behind_var(front: Front) -> After
-    ensures { result ≡ behind_var front }
+pub fn behind_var(tokens: &[Token], at: usize) -> After
+    ensures { result ≡ behind_var (front (drop at tokens.now)) }
 {
-    match front {
+    match front_at(tokens, at) {
         Front::Comma => After::Goes,
         Front::CloseParen => After::Ends(1),
         _ => After::Fails,
@@ -115,70 +115,79 @@ pub fn behind_var(front: Front) -> After
 }
 
 /// What stands behind an operand of `*`.
-pub fn behind_factor(front: Front) -> After
-    ensures { result ≡ behind_factor front }
+pub fn behind_factor(tokens: &[Token], at: usize) -> After
+    ensures { result ≡ behind_factor (front (drop at tokens.now)) }
 {
-    match front {
+    match front_at(tokens, at) {
         Front::Star => After::Goes,
         _ => After::Ends(0),
     }
 }
 
 /// What stands behind a constructor.
-pub fn behind_con(front: Front) -> After
-    ensures { result ≡ behind_con front }
+pub fn behind_con(tokens: &[Token], at: usize) -> After
+    ensures { result ≡ behind_con (front (drop at tokens.now)) }
 {
-    match front {
+    match front_at(tokens, at) {
         Front::Bar => After::Goes,
         _ => After::Ends(0),
     }
 }
 
-/// What stands behind the `;` of a field: the closing brace, or one more field.
-fn field_semi(behind: Front) -> After
-    ensures { result ≡ field_semi behind }
+/// What stands one token behind a place.
+fn front_behind(tokens: &[Token], at: usize) -> Front
+    ensures { result ≡ front (drop 1 (drop at tokens.now)) }
 {
-    match behind {
+    let mut behind = at;
+    pass(tokens, &mut behind);
+    front_at(tokens, behind)
+}
+
+/// What stands behind the `;` of a field: the closing brace, or one more field.
+fn field_semi(tokens: &[Token], at: usize) -> After
+    ensures { result ≡ field_semi (front (drop 1 (drop at tokens.now))) }
+{
+    match front_behind(tokens, at) {
         Front::CloseBrace => After::Ends(2),
         _ => After::Goes,
     }
 }
 
 /// What stands behind a field.
-pub fn behind_field(front: Front, behind: Front) -> After
-    ensures { result ≡ behind_field front behind }
+pub fn behind_field(tokens: &[Token], at: usize) -> After
+    ensures { result ≡ behind_field (front (drop at tokens.now)) (front (drop 1 (drop at tokens.now))) }
 {
-    match front {
-        Front::Semi => field_semi(behind),
+    match front_at(tokens, at) {
+        Front::Semi => field_semi(tokens, at),
         Front::CloseBrace => After::Ends(1),
         _ => After::Fails,
     }
 }
 
 /// What stands behind a declaration.
-pub fn behind_decl(front: Front) -> After
-    ensures { result ≡ behind_decl front }
+pub fn behind_decl(tokens: &[Token], at: usize) -> After
+    ensures { result ≡ behind_decl (front (drop at tokens.now)) }
 {
-    match front {
+    match front_at(tokens, at) {
         Front::And => After::Goes,
         _ => After::Ends(0),
     }
 }
 
-pub fn vars_start(front: Front) -> VarsStart
-    ensures { result ≡ vars_start front }
+pub fn vars_start(tokens: &[Token], at: usize) -> VarsStart
+    ensures { result ≡ vars_start (front (drop at tokens.now)) }
 {
-    match front {
+    match front_at(tokens, at) {
         Front::TypeVar => VarsStart::OneVar,
         Front::OpenParen => VarsStart::VarGroup,
         _ => VarsStart::NoVars,
     }
 }
 
-pub fn body_start(front: Front) -> BodyStart
-    ensures { result ≡ body_start front }
+pub fn body_start(tokens: &[Token], at: usize) -> BodyStart
+    ensures { result ≡ body_start (front (drop at tokens.now)) }
 {
-    match front {
+    match front_at(tokens, at) {
         Front::Bar => BodyStart::Bar,
         Front::Upper => BodyStart::Constructor,
         Front::OpenBrace => BodyStart::Brace,

@@ -1,11 +1,10 @@
-ghost use Rattle.std.specs.Prelude.{◌≡◌, ◌≢◌, ◌<◌, ◌≤◌, ◌^◌, drop, IfOk, IfErr, MatchOption};
-ghost use Rattle.ml_cursor.specs.Fronts.{front};
+ghost use Rattle.std.specs.Prelude.{◌≡◌, ◌≢◌, ◌+◌, ◌<◌, ◌≤◌, ◌^◌, suc, max, drop, Some, None, IfOk, IfErr, IfSome, IfNone};
 ghost use Rattle.ml_cursor.specs.Says.{Says};
-ghost use Rattle.ml_parse_types.specs.declared.looks.Row.TheVariants.{Arguments};
-ghost use Rattle.ml_parse_types.specs.declared.looks.TypeStart.TheVariants.{Group};
-ghost use Rattle.ml_parse_types.specs.Looks.{type_start, no_words};
-ghost use Rattle.ml_parse_types.specs.Types.{got, read, product, group, an_arg, ReadsWords, ReadsOperand, ReadsPart, ReadsList, ReadsSide, SideBy, ReadsType};
-ghost use Rattle.ml_parse_types.specs.Readers.{IsRead, IsDeep, IsNone, ReadsAtom, ReadsNames, ReadsWhole};
+ghost use Rattle.ml_tree.specs.declared.types.TyExpr.{TyExpr as Tree};
+ghost use Rattle.ml_parse_types.specs.declared.looks.TypeStart.TheVariants.{Variable, Named, Group};
+ghost use Rattle.ml_parse_types.specs.Looks.{no_words};
+ghost use Rattle.ml_parse_types.specs.Types.{got, read, postfix, product, group, an_arg, an_arrow, AtomBy, NamesFrom, ReadsOperand, ReadsPart, ReadsList, ReadsSide, SideFrom, ReadsType};
+ghost use Rattle.ml_parse_types.specs.Readers.{IsFound, IsDeep, IsNone, ReadsAtom, ReadsWhole};
 
 use crate::looks::{After, Row, TypeStart, behind_part, is_arrow, is_name, type_start};
 use crate::make::{make_applied, make_arg, make_arrow, make_postfix, make_tuple, make_variable};
@@ -41,7 +40,11 @@ struct ListFound {
 }
 
 /// The type variable at a place.
-fn variable(tokens: &[Token], at: &mut usize) -> TypeFound {
+#[tactic(auto, using(crate::proofs::TypeParts::a_lone_variable))]
+fn variable(tokens: &[Token], at: &mut usize) -> TypeFound
+    ensures reads { AtomBy Variable (drop at.old tokens.now) (read result.ty result.depth (drop at.new tokens.now)) }
+    ensures depth { result.depth ≡ 1 }
+{
     let span = span_at(tokens, *at);
     pass(tokens, at);
     TypeFound {
@@ -51,7 +54,11 @@ fn variable(tokens: &[Token], at: &mut usize) -> TypeFound {
 }
 
 /// The name at a place, applied to nothing.
-fn bare_name(alloc: Global, tokens: &[Token], at: &mut usize) -> TypeFound {
+#[tactic(auto, using(crate::proofs::TypeParts::a_lone_name))]
+fn bare_name(alloc: Global, tokens: &[Token], at: &mut usize) -> TypeFound
+    ensures reads { AtomBy Named (drop at.old tokens.now) (read result.ty result.depth (drop at.new tokens.now)) }
+    ensures depth { result.depth ≡ 1 }
+{
     let span = span_at(tokens, *at);
     pass(tokens, at);
     TypeFound {
@@ -61,13 +68,19 @@ fn bare_name(alloc: Global, tokens: &[Token], at: &mut usize) -> TypeFound {
 }
 
 /// The name at a place, applied to the type that stands before it from `start` on.
+#[tactic(auto, using(crate::proofs::TypeNodes::a_postfix))]
 fn postfix(
     alloc: Global,
     tokens: &[Token],
     start: usize,
     at: &mut usize,
     found: TypeFound,
-) -> Result<TypeFound, ParseErr> {
+) -> Result<TypeFound, ParseErr>
+    requires { found.depth + 1 < 2 ^ 32 }
+    ensures ok { IfOk result (λ f. read f.ty f.depth (drop at.new tokens.now) ≡
+        postfix (drop start tokens.now) (read found.ty found.depth (drop at.old tokens.now))) }
+    ensures err { IfErr result (λ e. e ≡ ParseErr.NoMemory) }
+{
     let name = span_at(tokens, *at);
     pass(tokens, at);
     Ok(TypeFound {
@@ -77,6 +90,7 @@ fn postfix(
 }
 
 /// The names behind a type, each applied to what stands before it.
+#[tactic(auto, using(crate::proofs::TypeParts::names_none, crate::proofs::TypeParts::names_more, crate::proofs::TypeParts::names_end, crate::proofs::TypeParts::names_deep))]
 fn read_names(
     alloc: Global,
     tokens: &[Token],
@@ -84,9 +98,15 @@ fn read_names(
     at: &mut usize,
     atom: TypeFound,
     left: u32,
-) -> Result<TypeFound, ParseErr> {
+) -> Result<TypeFound, ParseErr>
+    requires { atom.depth ≤ left }
+    ensures ok { IfOk result (λ f. IsFound (NamesFrom (drop start tokens.now) (read atom.ty atom.depth (drop at.old tokens.now)))
+        left (read f.ty f.depth (drop at.new tokens.now))) }
+    ensures err { IfErr result (Says tokens.now
+        (IsDeep (NamesFrom (drop start tokens.now) (read atom.ty atom.depth (drop at.old tokens.now))) left)) }
+{
     let mut found = atom;
-    'names: while is_name(front_at(tokens, *at)) {
+    'names: while is_name(tokens, *at) {
         if found.depth >= left {
             return Err(ParseErr::Refused(refusal_at(tokens, *at)));
         }
@@ -96,12 +116,19 @@ fn read_names(
 }
 
 /// What stands in parentheses from `start` on: one type, or several arguments with a name behind.
+#[tactic(auto, using(crate::proofs::TypeNodes::group_one, crate::proofs::TypeNodes::group_several, crate::proofs::TypeNodes::group_unnamed))]
 fn grouped(
     tokens: &[Token],
     start: usize,
     at: &mut usize,
     found: ListFound,
-) -> Result<TypeFound, ParseErr> {
+) -> Result<TypeFound, ParseErr>
+    requires { found.depth + 1 < 2 ^ 32 }
+    ensures ok { IfOk result (λ f. group (drop start tokens.now) (read found.list found.depth (drop at.old tokens.now)) ≡
+        Some (read f.ty f.depth (drop at.new tokens.now))) }
+    ensures err { IfErr result (Says tokens.now
+        (group (drop start tokens.now) (read found.list found.depth (drop at.old tokens.now)) ≡ None)) }
+{
     let ListFound { mut list, depth } = found;
     if list.len() == 1 {
         return match list.pop() {
@@ -112,7 +139,7 @@ fn grouped(
             None => unreachable!(),
         };
     }
-    if !is_name(front_at(tokens, *at)) {
+    if !is_name(tokens, *at) {
         return Err(ParseErr::Refused(refusal_at(tokens, *at)));
     }
     let name = span_at(tokens, *at);
@@ -124,13 +151,21 @@ fn grouped(
 }
 
 /// A row of operands as one type: a single one is itself.
+#[tactic(auto, using(crate::proofs::TypeNodes::product_one, crate::proofs::TypeNodes::product_several, crate::proofs::TypeNodes::product_deep))]
 fn product(
     tokens: &[Token],
     from: usize,
     at: usize,
     found: ListFound,
     left: u32,
-) -> Result<TypeFound, ParseErr> {
+) -> Result<TypeFound, ParseErr>
+    requires { found.depth ≤ left }
+    ensures ok { IfOk result (λ f. product (drop from tokens.now) (read found.list found.depth (drop at tokens.now)) ≡
+        read f.ty f.depth (drop at tokens.now)) }
+    ensures small { IfOk result (λ f. f.depth ≤ left) }
+    ensures err { IfErr result (Says tokens.now
+        (left < (product (drop from tokens.now) (read found.list found.depth (drop at tokens.now))).depth)) }
+{
     let ListFound { mut list, depth } = found;
     if list.len() == 1 {
         return match list.pop() {
@@ -148,7 +183,10 @@ fn product(
 }
 
 /// The type of a side that has no words of its own.
-fn without_words(arg: Arg) -> Option<TyExpr> {
+fn without_words(arg: Arg) -> Option<TyExpr>
+    ensures some { IfSome result (λ t. arg ≡ an_arg no_words t) }
+    ensures none { IfNone result ((t : Tree) → arg ≢ an_arg no_words t) }
+{
     let Arg { words, ty } = arg;
     if words.loc.is_none() && words.uni.is_none() && words.aff.is_none() {
         Some(ty)
@@ -164,7 +202,13 @@ fn arrow(
     words: Words,
     from: TypeFound,
     to: SideFound,
-) -> Result<SideFound, ParseErr> {
+) -> Result<SideFound, ParseErr>
+    requires from { from.depth + 1 < 2 ^ 32 }
+    requires to { to.depth + 1 < 2 ^ 32 }
+    ensures ok { IfOk result (λ s. s.arg ≡ an_arg no_words (an_arrow span (an_arg words from.ty) to.arg)) }
+    ensures depth { IfOk result (λ s. s.depth ≡ suc (max from.depth to.depth)) }
+    ensures err { IfErr result (λ e. e ≡ ParseErr.NoMemory) }
+{
     let depth = from.depth.max(to.depth) + 1;
     let ty = make_arrow(alloc, span, make_arg(words, from.ty), to.arg)?;
     Ok(SideFound {
@@ -179,11 +223,15 @@ fn read_atom(
     tokens: &[Token],
     at: &mut usize,
     left: u32,
-) -> Result<TypeFound, ParseErr> {
+) -> Result<TypeFound, ParseErr>
+    ensures ok { IfOk result (λ f. IsFound (ReadsAtom (drop at.old tokens.now)) left
+        (read f.ty f.depth (drop at.new tokens.now))) }
+    ensures err { IfErr result (Says tokens.now (IsDeep (ReadsAtom (drop at.old tokens.now)) left)) }
+{
     if left == 0 {
         return Err(ParseErr::Refused(refusal_at(tokens, *at)));
     }
-    match type_start(front_at(tokens, *at)) {
+    match type_start(tokens, *at) {
         TypeStart::Variable => Ok(variable(tokens, at)),
         TypeStart::Named => Ok(bare_name(alloc, tokens, at)),
         TypeStart::Group => read_group(alloc, tokens, at, left - 1),
@@ -197,7 +245,12 @@ fn read_group(
     tokens: &[Token],
     at: &mut usize,
     left: u32,
-) -> Result<TypeFound, ParseErr> {
+) -> Result<TypeFound, ParseErr>
+    requires { left + 1 < 2 ^ 32 }
+    ensures ok { IfOk result (λ f. IsFound (AtomBy Group (drop at.old tokens.now)) (left + 1)
+        (read f.ty f.depth (drop at.new tokens.now))) }
+    ensures err { IfErr result (Says tokens.now (IsDeep (AtomBy Group (drop at.old tokens.now)) (left + 1))) }
+{
     let start = *at;
     pass(tokens, at);
     let list = read_list(alloc, tokens, at, Row::Arguments, left)?;
@@ -210,7 +263,11 @@ fn read_operand(
     tokens: &[Token],
     at: &mut usize,
     left: u32,
-) -> Result<TypeFound, ParseErr> {
+) -> Result<TypeFound, ParseErr>
+    ensures ok { IfOk result (λ f. IsFound (ReadsOperand (drop at.old tokens.now)) left
+        (read f.ty f.depth (drop at.new tokens.now))) }
+    ensures err { IfErr result (Says tokens.now (IsDeep (ReadsOperand (drop at.old tokens.now)) left)) }
+{
     let start = *at;
     let atom = read_atom(alloc, tokens, at, left)?;
     read_names(alloc, tokens, start, at, atom, left)
@@ -223,10 +280,15 @@ fn read_part(
     at: &mut usize,
     row: Row,
     left: u32,
-) -> Result<TypeFound, ParseErr> {
+) -> Result<TypeFound, ParseErr>
+    ensures ok { IfOk result (λ f. IsFound (ReadsPart row (drop at.old tokens.now)) left
+        (read f.ty f.depth (drop at.new tokens.now))) }
+    ensures err { IfErr result (Says tokens.now (IsDeep (ReadsPart row (drop at.old tokens.now)) left)) }
+{
     match row {
         Row::Arguments => read_whole(alloc, tokens, at, Row::Factors, left),
-        Row::Alone | Row::Factors => read_operand(alloc, tokens, at, left),
+        Row::Alone => read_operand(alloc, tokens, at, left),
+        Row::Factors => read_operand(alloc, tokens, at, left),
     }
 }
 
@@ -237,14 +299,18 @@ fn read_list(
     at: &mut usize,
     row: Row,
     left: u32,
-) -> Result<ListFound, ParseErr> {
+) -> Result<ListFound, ParseErr>
+    ensures ok { IfOk result (λ f. IsFound (ReadsList row (drop at.old tokens.now)) left
+        (read f.list f.depth (drop at.new tokens.now))) }
+    ensures err { IfErr result (Says tokens.now (IsDeep (ReadsList row (drop at.old tokens.now)) left)) }
+{
     let mut list = Items::new(alloc);
     let mut depth = 0;
     'parts: loop {
         let found = read_part(alloc, tokens, at, row, left)?;
         depth = depth.max(found.depth);
         list.push(found.ty)?;
-        match behind_part(row, front_at(tokens, *at)) {
+        match behind_part(row, tokens, *at) {
             After::Goes => pass(tokens, at),
             After::Ends(tail) => {
                 skip(tokens, at, tail);
@@ -262,7 +328,11 @@ fn read_side(
     at: &mut usize,
     row: Row,
     left: u32,
-) -> Result<SideFound, ParseErr> {
+) -> Result<SideFound, ParseErr>
+    ensures ok { IfOk result (λ f. IsFound (ReadsSide row (drop at.old tokens.now)) left
+        (read f.arg f.depth (drop at.new tokens.now))) }
+    ensures err { IfErr result (Says tokens.now (IsDeep (ReadsSide row (drop at.old tokens.now)) left)) }
+{
     let start = *at;
     let words = read_words(tokens, at)?;
     let from = *at;
@@ -282,8 +352,13 @@ fn read_arrow(
     words: Words,
     product: TypeFound,
     left: u32,
-) -> Result<SideFound, ParseErr> {
-    if !is_arrow(front_at(tokens, *at)) {
+) -> Result<SideFound, ParseErr>
+    requires { product.depth ≤ left }
+    ensures ok { IfOk result (λ f. IsFound (SideFrom row (drop start tokens.now) words (read product.ty product.depth (drop at.old tokens.now))) left
+        (read f.arg f.depth (drop at.new tokens.now))) }
+    ensures err { IfErr result (Says tokens.now (IsDeep (SideFrom row (drop start tokens.now) words (read product.ty product.depth (drop at.old tokens.now))) left)) }
+{
+    if !is_arrow(tokens, *at) {
         return Ok(SideFound {
             arg: make_arg(words, product.ty),
             depth: product.depth,
@@ -305,7 +380,11 @@ fn read_whole(
     at: &mut usize,
     row: Row,
     left: u32,
-) -> Result<TypeFound, ParseErr> {
+) -> Result<TypeFound, ParseErr>
+    ensures ok { IfOk result (λ f. IsFound (ReadsWhole row (drop at.old tokens.now)) left
+        (read f.ty f.depth (drop at.new tokens.now))) }
+    ensures err { IfErr result (Says tokens.now (IsDeep (ReadsWhole row (drop at.old tokens.now)) left)) }
+{
     let found = read_side(alloc, tokens, at, row, left)?;
     let SideFound { arg, depth } = found;
     match without_words(arg) {
@@ -320,6 +399,9 @@ pub fn read_type(
     tokens: &[Token],
     at: &mut usize,
     row: Row,
-) -> Result<TyExpr, ParseErr> {
+) -> Result<TyExpr, ParseErr>
+    ensures ok { IfOk result (λ t. ReadsType row (drop at.old tokens.now) (got t (drop at.new tokens.now))) }
+    ensures err { IfErr result (Says tokens.now (IsNone (ReadsType row) (drop at.old tokens.now))) }
+{
     Ok(read_whole(alloc, tokens, at, row, MAX_DEPTH)?.ty)
 }

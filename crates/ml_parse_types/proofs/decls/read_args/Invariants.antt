@@ -1,0 +1,10 @@
+use Rattle.std.proofs.Common.{length, drop}
+use Rattle.ml_parse_types.specs.Decls.{ReadsArg, arg_behind}
+use Rattle.ml_parse_types.proofs.ItemLists.{ItemsAlong}
+use Rattle.ml_parse_types.proofs.decls.read_args.Given as goal
+
+abbrev pub decreases-args : goal.decreases-args
+decreases-args l = length (drop l.at l.tokens)
+
+abbrev pub invariant-args : goal.invariant-args
+invariant-args l = ItemsAlong ReadsArg arg_behind (drop l.fn.at l.tokens) (drop l.at l.tokens) l.list
