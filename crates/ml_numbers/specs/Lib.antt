@@ -1,2 +1,3 @@
+pub mod Ids
 pub mod Numbered
 pub mod Steps

@@ -35,9 +35,19 @@ fn number_kind(alloc: Global, kind: &ExprKind, next: &mut Next) -> Result<ExprKi
         ExprKind::Text(text) => Ok(ExprKind::Text(copied(alloc, text)?)),
         ExprKind::Name(name) => Ok(ExprKind::Name(*name)),
         ExprKind::Path(place, name) => Ok(ExprKind::Path(*place, *name)),
-        ExprKind::Con { name, arg } => {
-            let arg = number_perhaps(alloc, arg, next)?;
-            Ok(ExprKind::Con { name: *name, arg })
+        ExprKind::Con { name, arg: None } => Ok(ExprKind::Con {
+            name: *name,
+            arg: None,
+        }),
+        ExprKind::Con {
+            name,
+            arg: Some(inner),
+        } => {
+            let inner = number_boxed(alloc, inner, next)?;
+            Ok(ExprKind::Con {
+                name: *name,
+                arg: Some(inner),
+            })
         }
         ExprKind::Cons(one, other) => {
             let one = number_boxed(alloc, one, next)?;
@@ -71,11 +81,16 @@ fn number_kind(alloc: Global, kind: &ExprKind, next: &mut Next) -> Result<ExprKi
             Ok(ExprKind::Binary(*op, one, other))
         }
         ExprKind::Minus(inner) => Ok(ExprKind::Minus(number_boxed(alloc, inner, next)?)),
-        ExprKind::If(condition, branch, other) => {
+        ExprKind::If(condition, branch, None) => {
             let condition = number_boxed(alloc, condition, next)?;
             let branch = number_boxed(alloc, branch, next)?;
-            let other = number_perhaps(alloc, other, next)?;
-            Ok(ExprKind::If(condition, branch, other))
+            Ok(ExprKind::If(condition, branch, None))
+        }
+        ExprKind::If(condition, branch, Some(other)) => {
+            let condition = number_boxed(alloc, condition, next)?;
+            let branch = number_boxed(alloc, branch, next)?;
+            let other = number_boxed(alloc, other, next)?;
+            Ok(ExprKind::If(condition, branch, Some(other)))
         }
         ExprKind::Let {
             recursive,
@@ -140,20 +155,6 @@ fn number_boxed(alloc: Global, e: &Boxed<Expr>, next: &mut Next) -> Result<Boxed
     ensures { IfOk result (λ out. numbered_expr e.now next.old ≡ (out, next.new)) }
 {
     Ok(Boxed::new(alloc, number_expr(alloc, e.get(), next)?)?)
-}
-
-#[cycle(expressions)]
-fn number_perhaps(
-    alloc: Global,
-    e: &Option<Boxed<Expr>>,
-    next: &mut Next,
-) -> Result<Option<Boxed<Expr>>, NoMemory>
-    ensures { IfOk result (λ out. perhaps (option_map numbered_expr e.now) next.old ≡ (out, next.new)) }
-{
-    match e {
-        Some(inner) => Ok(Some(number_boxed(alloc, inner, next)?)),
-        None => Ok(None),
-    }
 }
 
 #[cycle(expressions)]

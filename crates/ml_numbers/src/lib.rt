@@ -5,6 +5,8 @@ mod expr;
 mod next;
 mod pattern;
 mod program;
+#[cfg(test)]
+mod tests;
 mod types;
 
 pub use program::number;

@@ -1,6 +1,5 @@
 ghost use Rattle.std.specs.Prelude.{◌≡◌, map, IfOk};
-ghost use Rattle.std.specs.Option.{option_map};
-ghost use Rattle.ml_numbers.specs.Steps.{each, perhaps};
+ghost use Rattle.ml_numbers.specs.Steps.{each};
 ghost use Rattle.ml_numbers.specs.Numbered.{numbered_pattern, numbered_pattern_kind, numbered_field_pattern, numbered_param, numbered_params};
 
 use crate::next::{Next, node_number};
@@ -43,9 +42,19 @@ fn number_kind(alloc: Global, kind: &PatKind, next: &mut Next) -> Result<PatKind
         PatKind::Int(value) => Ok(PatKind::Int(*value)),
         PatKind::Char(value) => Ok(PatKind::Char(*value)),
         PatKind::Text(text) => Ok(PatKind::Text(copied(alloc, text)?)),
-        PatKind::Con { name, arg } => {
-            let arg = number_argument(alloc, arg, next)?;
-            Ok(PatKind::Con { name: *name, arg })
+        PatKind::Con { name, arg: None } => Ok(PatKind::Con {
+            name: *name,
+            arg: None,
+        }),
+        PatKind::Con {
+            name,
+            arg: Some(inner),
+        } => {
+            let inner = number_boxed(alloc, inner, next)?;
+            Ok(PatKind::Con {
+                name: *name,
+                arg: Some(inner),
+            })
         }
         PatKind::Cons(one, other) => {
             let one = number_boxed(alloc, one, next)?;
@@ -85,20 +94,6 @@ fn number_boxed(alloc: Global, pat: &Boxed<Pat>, next: &mut Next) -> Result<Boxe
     ensures { IfOk result (λ out. numbered_pattern pat.now next.old ≡ (out, next.new)) }
 {
     Ok(Boxed::new(alloc, number_pattern(alloc, pat.get(), next)?)?)
-}
-
-#[cycle(patterns)]
-fn number_argument(
-    alloc: Global,
-    arg: &Option<Boxed<Pat>>,
-    next: &mut Next,
-) -> Result<Option<Boxed<Pat>>, NoMemory>
-    ensures { IfOk result (λ out. perhaps (option_map numbered_pattern arg.now) next.old ≡ (out, next.new)) }
-{
-    match arg {
-        Some(pat) => Ok(Some(number_boxed(alloc, pat, next)?)),
-        None => Ok(None),
-    }
 }
 
 #[cycle(patterns)]

@@ -1,4 +1,5 @@
 ghost use Rattle.std.specs.Prelude.{◌≡◌, map, IfOk};
+ghost use Rattle.ml_numbers.specs.Ids.{IsNumbered};
 ghost use Rattle.ml_numbers.specs.Steps.{each};
 ghost use Rattle.ml_numbers.specs.Numbered.{numbered_item_kind, numbered_item, numbered};
 
@@ -52,7 +53,8 @@ fn number_items(alloc: Global, list: &[Item], next: &mut Next) -> Result<Items<I
 /// Each are numbered from 0 on in the order of the source, a node before its parts; the numbers that
 /// stand in the items do not matter. `NoMemory` where memory runs out, or the 32 bits of a number.
 pub fn number(alloc: Global, items: &[Item]) -> Result<Program, NoMemory>
-    ensures { IfOk result (λ program. program ≡ numbered items.now) }
+    ensures is { IfOk result (λ program. program ≡ numbered items.now) }
+    ensures counts_up { IfOk result IsNumbered }
 {
     let mut next = Next { nodes: 0, types: 0 };
     let items = number_items(alloc, items, &mut next)?;
