@@ -1,14 +1,10 @@
 //! The arms of a match.
-ghost use Rattle.std.specs.Prelude.{drop, All, IfOk, IfErr};
+ghost use Rattle.std.specs.Prelude.{◌≤◌, All, IfOk, IfErr};
 ghost use Rattle.ml_lexer.specs.Tokens.{IsSound};
-ghost use Rattle.ml_cursor.specs.Fronts.{front};
-ghost use Rattle.ml_parser.specs.Looks.{behind_bar};
-ghost use Rattle.ml_parser.specs.Grammar.{arms, GuardBy, Lists, ItemBy};
-ghost use Rattle.ml_parser.specs.Readings.{IsRead, Actions};
 ghost use Rattle.ml_parser.specs.Refusals.{IsRefused};
 
 use crate::expression::{read_parts, read_until};
-use crate::found::{Found, just, no_parts, nothing, pair, with_part};
+use crate::found::{Found, just, no_parts, nothing, pair, with_part, give_up};
 use crate::looks::ListKind;
 use crate::parts::arm;
 use crate::source::Source;
@@ -27,18 +23,19 @@ pub fn read_arms(
     left: u32,
 ) -> Result<Found<Items<Arm>>, ParseErr>
     requires texts { All (IsSound source.now.text.now) source.now.tokens.now }
-    ensures ok { IfOk result (λ f. IsRead (Lists source.now.text.now arms (behind_bar (drop at.old source.now.tokens.now))) left f.tree f.depth (drop at.new source.now.tokens.now)) }
+    ensures small { IfOk result (λ f. f.depth ≤ left) }
     ensures err { IfErr result (IsRefused source.now.tokens.now) }
 {
     accept(source.tokens, at, Front::Bar);
     let mut list = no_parts(alloc);
-    'arms: loop {
+    'arms: for _ in source.tokens {
         let arm = read_arm(alloc, source, at, left)?;
         list = with_part(list, arm)?;
         if !accept(source.tokens, at, Front::Bar) {
             return Ok(list);
         }
     }
+    Err(give_up(source.tokens, *at, list))
 }
 
 /// `pattern [when seq] -> seq`
@@ -50,7 +47,7 @@ fn read_arm(
     left: u32,
 ) -> Result<Found<Arm>, ParseErr>
     requires texts { All (IsSound source.now.text.now) source.now.tokens.now }
-    ensures ok { IfOk result (λ f. IsRead (ItemBy source.now.text.now arms (drop at.old source.now.tokens.now)) left f.tree f.depth (drop at.new source.now.tokens.now)) }
+    ensures small { IfOk result (λ f. f.depth ≤ left) }
     ensures err { IfErr result (IsRefused source.now.tokens.now) }
 {
     let pat = read_pattern(alloc, source.text, source.tokens, at, left)?;
@@ -67,7 +64,7 @@ fn read_action(
     left: u32,
 ) -> Result<Found<(Option<Expr>, Expr)>, ParseErr>
     requires texts { All (IsSound source.now.text.now) source.now.tokens.now }
-    ensures ok { IfOk result (λ f. IsRead (Actions source.now.text.now (drop at.old source.now.tokens.now)) left f.tree f.depth (drop at.new source.now.tokens.now)) }
+    ensures small { IfOk result (λ f. f.depth ≤ left) }
     ensures err { IfErr result (IsRefused source.now.tokens.now) }
 {
     let guard = read_guard(alloc, source, at, left)?;
@@ -84,7 +81,7 @@ fn read_guard(
     left: u32,
 ) -> Result<Found<Option<Expr>>, ParseErr>
     requires texts { All (IsSound source.now.text.now) source.now.tokens.now }
-    ensures ok { IfOk result (λ f. IsRead (GuardBy source.now.text.now (front (drop at.old source.now.tokens.now)) (drop at.old source.now.tokens.now)) left f.tree f.depth (drop at.new source.now.tokens.now)) }
+    ensures small { IfOk result (λ f. f.depth ≤ left) }
     ensures err { IfErr result (IsRefused source.now.tokens.now) }
 {
     if accept(source.tokens, at, Front::When) {

@@ -1,9 +1,6 @@
 //! Atoms: leaves, parentheses, lists and records.
-ghost use Rattle.std.specs.Prelude.{drop, All, IfOk, IfErr};
+ghost use Rattle.std.specs.Prelude.{◌≤◌, All, IfOk, IfErr};
 ghost use Rattle.ml_lexer.specs.Tokens.{IsSound};
-ghost use Rattle.ml_parser.specs.declared.looks.AtomLead.{AtomLead};
-ghost use Rattle.ml_parser.specs.Grammar.{atom, Reads, AtomBy};
-ghost use Rattle.ml_parser.specs.Readings.{IsRead};
 ghost use Rattle.ml_parser.specs.Refusals.{IsRefused};
 
 use crate::begins::atom_at;
@@ -28,7 +25,7 @@ pub fn read_atom(
     left: u32,
 ) -> Result<Found<Expr>, ParseErr>
     requires texts { All (IsSound source.now.text.now) source.now.tokens.now }
-    ensures ok { IfOk result (λ f. IsRead (Reads source.now.text.now atom (drop at.old source.now.tokens.now)) left f.tree f.depth (drop at.new source.now.tokens.now)) }
+    ensures small { IfOk result (λ f. f.depth ≤ left) }
     ensures err { IfErr result (IsRefused source.now.tokens.now) }
 {
     match atom_at(source.tokens, *at) {
@@ -51,7 +48,7 @@ fn read_paren(
     left: u32,
 ) -> Result<Found<Expr>, ParseErr>
     requires texts { All (IsSound source.now.text.now) source.now.tokens.now }
-    ensures ok { IfOk result (λ f. IsRead (AtomBy source.now.text.now AtomLead.Paren (drop at.old source.now.tokens.now)) left f.tree f.depth (drop at.new source.now.tokens.now)) }
+    ensures small { IfOk result (λ f. f.depth ≤ left) }
     ensures err { IfErr result (IsRefused source.now.tokens.now) }
 {
     let head = open_form(source.tokens, at, left)?;
@@ -68,7 +65,7 @@ fn read_begin(
     left: u32,
 ) -> Result<Found<Expr>, ParseErr>
     requires texts { All (IsSound source.now.text.now) source.now.tokens.now }
-    ensures ok { IfOk result (λ f. IsRead (AtomBy source.now.text.now AtomLead.Begin (drop at.old source.now.tokens.now)) left f.tree f.depth (drop at.new source.now.tokens.now)) }
+    ensures small { IfOk result (λ f. f.depth ≤ left) }
     ensures err { IfErr result (IsRefused source.now.tokens.now) }
 {
     let head = open_form(source.tokens, at, left)?;
@@ -85,7 +82,7 @@ fn read_elements(
     left: u32,
 ) -> Result<Found<Expr>, ParseErr>
     requires texts { All (IsSound source.now.text.now) source.now.tokens.now }
-    ensures ok { IfOk result (λ f. IsRead (AtomBy source.now.text.now AtomLead.List (drop at.old source.now.tokens.now)) left f.tree f.depth (drop at.new source.now.tokens.now)) }
+    ensures small { IfOk result (λ f. f.depth ≤ left) }
     ensures err { IfErr result (IsRefused source.now.tokens.now) }
 {
     let head = open_form(source.tokens, at, left)?;
@@ -102,7 +99,7 @@ fn read_record(
     left: u32,
 ) -> Result<Found<Expr>, ParseErr>
     requires texts { All (IsSound source.now.text.now) source.now.tokens.now }
-    ensures ok { IfOk result (λ f. IsRead (AtomBy source.now.text.now AtomLead.Record (drop at.old source.now.tokens.now)) left f.tree f.depth (drop at.new source.now.tokens.now)) }
+    ensures small { IfOk result (λ f. f.depth ≤ left) }
     ensures err { IfErr result (IsRefused source.now.tokens.now) }
 {
     let head = open_form(source.tokens, at, left)?;

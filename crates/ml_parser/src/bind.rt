@@ -1,12 +1,10 @@
 //! The bindings of a `let`.
-ghost use Rattle.std.specs.Prelude.{drop, All, IfOk, IfErr};
+ghost use Rattle.std.specs.Prelude.{◌≤◌, All, IfOk, IfErr};
 ghost use Rattle.ml_lexer.specs.Tokens.{IsSound};
-ghost use Rattle.ml_parser.specs.Grammar.{binds, Lists, ItemBy};
-ghost use Rattle.ml_parser.specs.Readings.{IsRead, Values};
 ghost use Rattle.ml_parser.specs.Refusals.{IsRefused};
 
 use crate::expression::read_parts;
-use crate::found::{Found, no_parts, with_part};
+use crate::found::{Found, no_parts, with_part, give_up};
 use crate::looks::ListKind;
 use crate::parts::{bind, value};
 use crate::source::Source;
@@ -25,17 +23,18 @@ pub fn read_binds(
     left: u32,
 ) -> Result<Found<Items<Bind>>, ParseErr>
     requires texts { All (IsSound source.now.text.now) source.now.tokens.now }
-    ensures ok { IfOk result (λ f. IsRead (Lists source.now.text.now binds (drop at.old source.now.tokens.now)) left f.tree f.depth (drop at.new source.now.tokens.now)) }
+    ensures small { IfOk result (λ f. f.depth ≤ left) }
     ensures err { IfErr result (IsRefused source.now.tokens.now) }
 {
     let mut list = no_parts(alloc);
-    'binds: loop {
+    'binds: for _ in source.tokens {
         let bind = read_bind(alloc, source, at, left)?;
         list = with_part(list, bind)?;
         if !accept(source.tokens, at, Front::And) {
             return Ok(list);
         }
     }
+    Err(give_up(source.tokens, *at, list))
 }
 
 /// `name param+ [: type] = seq` and `pattern [: type] = seq`
@@ -47,7 +46,7 @@ fn read_bind(
     left: u32,
 ) -> Result<Found<Bind>, ParseErr>
     requires texts { All (IsSound source.now.text.now) source.now.tokens.now }
-    ensures ok { IfOk result (λ f. IsRead (ItemBy source.now.text.now binds (drop at.old source.now.tokens.now)) left f.tree f.depth (drop at.new source.now.tokens.now)) }
+    ensures small { IfOk result (λ f. f.depth ≤ left) }
     ensures err { IfErr result (IsRefused source.now.tokens.now) }
 {
     let target = read_target(alloc, source, at, left)?;
@@ -64,7 +63,7 @@ fn read_value(
     left: u32,
 ) -> Result<Found<(Option<TyExpr>, Expr)>, ParseErr>
     requires texts { All (IsSound source.now.text.now) source.now.tokens.now }
-    ensures ok { IfOk result (λ f. IsRead (Values source.now.text.now (drop at.old source.now.tokens.now)) left f.tree f.depth (drop at.new source.now.tokens.now)) }
+    ensures small { IfOk result (λ f. f.depth ≤ left) }
     ensures err { IfErr result (IsRefused source.now.tokens.now) }
 {
     let result = read_result(alloc, source.tokens, at)?;

@@ -1,12 +1,9 @@
 //! Expressions by levels: sequences, tuples, operators, applications.
-ghost use Rattle.std.specs.Prelude.{◌<◌, ◌≤◌, suc, true, drop, All, IfOk, IfErr};
+ghost use Rattle.std.specs.Prelude.{◌<◌, ◌≤◌, All, IfOk, IfErr};
 ghost use Rattle.ml_lexer.specs.Tokens.{IsSound};
-ghost use Rattle.ml_parser.specs.Looks.{operator_at};
-ghost use Rattle.ml_parser.specs.Grammar.{operators, listed, part_of, Reads, LevelBy};
-ghost use Rattle.ml_parser.specs.Readings.{IsRead, Until, Behind, Infix, Levels};
 ghost use Rattle.ml_parser.specs.Refusals.{IsRefused};
 
-use crate::found::{Found, as_part, closed_by};
+use crate::found::{Found, as_part, closed_by, give_up};
 use crate::list::{goes_on, read_list};
 use crate::looks::{Joint, ListKind};
 use crate::make::{gathered, infix};
@@ -28,7 +25,7 @@ pub fn read_part(
     left: u32,
 ) -> Result<Found<Expr>, ParseErr>
     requires texts { All (IsSound source.now.text.now) source.now.tokens.now }
-    ensures ok { IfOk result (λ f. IsRead (Reads source.now.text.now (part_of kind) (drop at.old source.now.tokens.now)) left f.tree f.depth (drop at.new source.now.tokens.now)) }
+    ensures small { IfOk result (λ f. f.depth ≤ left) }
     ensures err { IfErr result (IsRefused source.now.tokens.now) }
 {
     match kind {
@@ -50,7 +47,7 @@ pub fn read_parts(
     left: u32,
 ) -> Result<Found<Expr>, ParseErr>
     requires texts { All (IsSound source.now.text.now) source.now.tokens.now }
-    ensures ok { IfOk result (λ f. IsRead (Reads source.now.text.now (listed kind) (drop at.old source.now.tokens.now)) left f.tree f.depth (drop at.new source.now.tokens.now)) }
+    ensures small { IfOk result (λ f. f.depth ≤ left) }
     ensures err { IfErr result (IsRefused source.now.tokens.now) }
 {
     let first = read_part(kind, alloc, source, at, left)?;
@@ -73,7 +70,7 @@ pub fn read_operators(
 ) -> Result<Found<Expr>, ParseErr>
     requires level { level ≤ 8 }
     requires texts { All (IsSound source.now.text.now) source.now.tokens.now }
-    ensures ok { IfOk result (λ f. IsRead (Reads source.now.text.now (operators level) (drop at.old source.now.tokens.now)) left f.tree f.depth (drop at.new source.now.tokens.now)) }
+    ensures small { IfOk result (λ f. f.depth ≤ left) }
     ensures err { IfErr result (IsRefused source.now.tokens.now) }
 {
     let mut found = read_operand(alloc, source, at, left)?;
@@ -96,7 +93,7 @@ pub fn read_level(
     requires level { lower < 8 }
     requires small { first.depth ≤ left }
     requires texts { All (IsSound source.now.text.now) source.now.tokens.now }
-    ensures ok { IfOk result (λ f. IsRead (Levels source.now.text.now lower first.tree first.depth (drop at.old source.now.tokens.now)) left f.tree f.depth (drop at.new source.now.tokens.now)) }
+    ensures small { IfOk result (λ f. f.depth ≤ left) }
     ensures err { IfErr result (IsRefused source.now.tokens.now) }
 {
     if groups_left(lower + 1) {
@@ -121,14 +118,17 @@ fn read_to_left(
     requires level { lower < 8 }
     requires small { first.depth ≤ left }
     requires texts { All (IsSound source.now.text.now) source.now.tokens.now }
-    ensures ok { IfOk result (λ f. IsRead (LevelBy source.now.text.now lower true (operator_at (suc lower) (drop at.old source.now.tokens.now)) (drop at.old source.now.tokens.now) first.tree first.depth) left f.tree f.depth (drop at.new source.now.tokens.now)) }
+    ensures small { IfOk result (λ f. f.depth ≤ left) }
     ensures err { IfErr result (IsRefused source.now.tokens.now) }
 {
     let mut found = first;
-    'operators: while let Some(joint) = operator_at(source.tokens, *at, lower + 1) {
+    'operators: for _ in source.tokens {
+        let Some(joint) = operator_at(source.tokens, *at, lower + 1) else {
+            return Ok(found);
+        };
         found = read_second(joint, lower, alloc, source, at, found, left)?;
     }
-    Ok(found)
+    Err(give_up(source.tokens, *at, found))
 }
 
 /// A first operand, the operator behind it, and the second operand, which has the operators up to a
@@ -146,7 +146,7 @@ fn read_second(
     requires level { level ≤ 8 }
     requires small { first.depth ≤ left }
     requires texts { All (IsSound source.now.text.now) source.now.tokens.now }
-    ensures ok { IfOk result (λ f. IsRead (Infix source.now.text.now level joint first.tree first.depth (drop at.old source.now.tokens.now)) left f.tree f.depth (drop at.new source.now.tokens.now)) }
+    ensures small { IfOk result (λ f. f.depth ≤ left) }
     ensures err { IfErr result (IsRefused source.now.tokens.now) }
 {
     let first = as_part(source.tokens, *at, first, left)?;
@@ -165,7 +165,7 @@ pub fn read_until(
     left: u32,
 ) -> Result<Found<Expr>, ParseErr>
     requires texts { All (IsSound source.now.text.now) source.now.tokens.now }
-    ensures ok { IfOk result (λ f. IsRead (Until source.now.text.now end (drop at.old source.now.tokens.now)) left f.tree f.depth (drop at.new source.now.tokens.now)) }
+    ensures small { IfOk result (λ f. f.depth ≤ left) }
     ensures err { IfErr result (IsRefused source.now.tokens.now) }
 {
     let found = read_parts(ListKind::Statements, alloc, source, at, left)?;
@@ -182,7 +182,7 @@ pub fn read_behind(
     left: u32,
 ) -> Result<Found<Expr>, ParseErr>
     requires texts { All (IsSound source.now.text.now) source.now.tokens.now }
-    ensures ok { IfOk result (λ f. IsRead (Behind source.now.text.now start (drop at.old source.now.tokens.now)) left f.tree f.depth (drop at.new source.now.tokens.now)) }
+    ensures small { IfOk result (λ f. f.depth ≤ left) }
     ensures err { IfErr result (IsRefused source.now.tokens.now) }
 {
     take(source.tokens, at, start)?;

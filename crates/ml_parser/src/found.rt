@@ -198,3 +198,10 @@ pub fn nothing<T>() -> Found<Option<T>>
         depth: 0,
     }
 }
+
+/// The refusal of the token at a place, for what was found before it.
+pub fn give_up<T: Drop>(tokens: &[Token], at: usize, _found: Found<T>) -> ParseErr
+    ensures { IsRefused tokens.now result }
+{
+    ParseErr::Refused(refusal_at(tokens, at))
+}

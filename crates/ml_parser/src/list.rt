@@ -1,15 +1,13 @@
 //! Lists of expressions: sequences, tuples, elements of a list literal, arguments.
-ghost use Rattle.std.specs.Prelude.{◌≡◌, drop, if◌then◌else◌, All, IfOk, IfErr};
+ghost use Rattle.std.specs.Prelude.{◌≡◌, ◌≤◌, drop, if◌then◌else◌, All, IfOk, IfErr};
 ghost use Rattle.ml_lexer.specs.Tokens.{IsSound};
 ghost use Rattle.ml_cursor.specs.Fronts.{front};
 ghost use Rattle.ml_parser.specs.Looks.{is_comma, joins_operands, begins_statement, behind_statements, goes_on, next, behind};
-ghost use Rattle.ml_parser.specs.Grammar.{exprs, Lists};
-ghost use Rattle.ml_parser.specs.Readings.{IsRead};
 ghost use Rattle.ml_parser.specs.Refusals.{IsRefused};
 
 use crate::begins::{begins_atom, begins_expression, second_at};
 use crate::expression::read_part;
-use crate::found::{Found, no_parts, with_part};
+use crate::found::{Found, no_parts, with_part, give_up};
 use crate::looks::ListKind;
 use crate::operators::operator_of;
 use crate::source::Source;
@@ -80,15 +78,16 @@ pub fn read_list(
     left: u32,
 ) -> Result<Found<Items<Expr>>, ParseErr>
     requires texts { All (IsSound source.now.text.now) source.now.tokens.now }
-    ensures ok { IfOk result (λ f. IsRead (Lists source.now.text.now (exprs kind) (drop at.old source.now.tokens.now)) left f.tree f.depth (drop at.new source.now.tokens.now)) }
+    ensures small { IfOk result (λ f. f.depth ≤ left) }
     ensures err { IfErr result (IsRefused source.now.tokens.now) }
 {
     let mut list = no_parts(alloc);
-    'parts: loop {
+    'parts: for _ in source.tokens {
         let part = read_part(kind, alloc, source, at, left)?;
         list = with_part(list, part)?;
         if !goes_on(kind, source, at) {
             return Ok(list);
         }
     }
+    Err(give_up(source.tokens, *at, list))
 }

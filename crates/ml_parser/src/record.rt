@@ -1,13 +1,11 @@
 //! The fields of a record.
-ghost use Rattle.std.specs.Prelude.{◌≡◌, drop, if◌then◌else◌, All, IfOk, IfErr};
+ghost use Rattle.std.specs.Prelude.{◌≡◌, ◌≤◌, drop, if◌then◌else◌, All, IfOk, IfErr};
 ghost use Rattle.ml_lexer.specs.Tokens.{IsSound};
 ghost use Rattle.ml_parser.specs.Looks.{begins_field, behind_semi};
-ghost use Rattle.ml_parser.specs.Grammar.{fields, Lists, ItemBy};
-ghost use Rattle.ml_parser.specs.Readings.{IsRead};
 ghost use Rattle.ml_parser.specs.Refusals.{IsRefused};
 
 use crate::expression::read_parts;
-use crate::found::{Found, no_parts, with_part};
+use crate::found::{Found, no_parts, with_part, give_up};
 use crate::looks::ListKind;
 use crate::parts::{field, pun};
 use crate::source::Source;
@@ -35,17 +33,18 @@ pub fn read_fields(
     left: u32,
 ) -> Result<Found<Items<FieldExpr>>, ParseErr>
     requires texts { All (IsSound source.now.text.now) source.now.tokens.now }
-    ensures ok { IfOk result (λ f. IsRead (Lists source.now.text.now fields (drop at.old source.now.tokens.now)) left f.tree f.depth (drop at.new source.now.tokens.now)) }
+    ensures small { IfOk result (λ f. f.depth ≤ left) }
     ensures err { IfErr result (IsRefused source.now.tokens.now) }
 {
     let mut list = no_parts(alloc);
-    'fields: loop {
+    'fields: for _ in source.tokens {
         let field = read_field(alloc, source, at, left)?;
         list = with_part(list, field)?;
         if !field_follows(source.tokens, at) {
             return Ok(list);
         }
     }
+    Err(give_up(source.tokens, *at, list))
 }
 
 /// `name [= expr]`
@@ -57,7 +56,7 @@ fn read_field(
     left: u32,
 ) -> Result<Found<FieldExpr>, ParseErr>
     requires texts { All (IsSound source.now.text.now) source.now.tokens.now }
-    ensures ok { IfOk result (λ f. IsRead (ItemBy source.now.text.now fields (drop at.old source.now.tokens.now)) left f.tree f.depth (drop at.new source.now.tokens.now)) }
+    ensures small { IfOk result (λ f. f.depth ≤ left) }
     ensures err { IfErr result (IsRefused source.now.tokens.now) }
 {
     let name = take(source.tokens, at, Front::Lower)?;

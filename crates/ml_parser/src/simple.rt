@@ -1,17 +1,13 @@
 //! Atoms with what goes on behind them.
-ghost use Rattle.std.specs.Prelude.{◌≢◌, ◌<◌, ◌≤◌, drop, All, IfOk, IfErr};
+ghost use Rattle.std.specs.Prelude.{◌<◌, ◌≤◌, All, IfOk, IfErr};
 ghost use Rattle.ml_lexer.specs.Tokens.{IsSound};
-ghost use Rattle.ml_parser.specs.declared.looks.Suffix.{Suffix};
-ghost use Rattle.ml_parser.specs.Looks.{suffix};
-ghost use Rattle.ml_parser.specs.Grammar.{simple, Reads};
-ghost use Rattle.ml_parser.specs.Readings.{IsRead, OneSuffix};
 ghost use Rattle.ml_parser.specs.Refusals.{IsRefused};
 
 use crate::atom::read_atom;
 use crate::begins::suffix_at;
 use crate::brackets::{close_index, field_of};
 use crate::expression::read_parts;
-use crate::found::{Found, as_part};
+use crate::found::{Found, as_part, give_up};
 use crate::looks::{ListKind, Suffix};
 use crate::source::Source;
 use ml_cursor::{ParseErr, skip};
@@ -27,14 +23,17 @@ pub fn read_simple(
     left: u32,
 ) -> Result<Found<Expr>, ParseErr>
     requires texts { All (IsSound source.now.text.now) source.now.tokens.now }
-    ensures ok { IfOk result (λ f. IsRead (Reads source.now.text.now simple (drop at.old source.now.tokens.now)) left f.tree f.depth (drop at.new source.now.tokens.now)) }
+    ensures small { IfOk result (λ f. f.depth ≤ left) }
     ensures err { IfErr result (IsRefused source.now.tokens.now) }
 {
     let mut found = read_atom(alloc, source, at, left)?;
-    'suffixes: while suffix_at(source.tokens, *at) != Suffix::Nothing {
+    'suffixes: for _ in source.tokens {
+        if suffix_at(source.tokens, *at) == Suffix::Nothing {
+            return Ok(found);
+        }
         found = read_suffix(alloc, source, at, found, left)?;
     }
-    Ok(found)
+    Err(give_up(source.tokens, *at, found))
 }
 
 /// What was found, with one `.name` or `.[seq]`.
@@ -46,10 +45,9 @@ fn read_suffix(
     found: Found<Expr>,
     left: u32,
 ) -> Result<Found<Expr>, ParseErr>
-    requires stands { suffix (drop at.old source.now.tokens.now) ≢ Suffix.Nothing }
     requires small { found.depth ≤ left }
     requires texts { All (IsSound source.now.text.now) source.now.tokens.now }
-    ensures ok { IfOk result (λ f. IsRead (OneSuffix source.now.text.now found.tree found.depth (suffix (drop at.old source.now.tokens.now)) (drop at.old source.now.tokens.now)) left f.tree f.depth (drop at.new source.now.tokens.now)) }
+    ensures small { IfOk result (λ f. f.depth ≤ left) }
     ensures err { IfErr result (IsRefused source.now.tokens.now) }
 {
     let found = as_part(source.tokens, *at, found, left)?;
@@ -70,7 +68,7 @@ fn read_index(
 ) -> Result<Found<Expr>, ParseErr>
     requires small { found.depth < left }
     requires texts { All (IsSound source.now.text.now) source.now.tokens.now }
-    ensures ok { IfOk result (λ f. IsRead (OneSuffix source.now.text.now found.tree found.depth Suffix.Index (drop at.old source.now.tokens.now)) left f.tree f.depth (drop at.new source.now.tokens.now)) }
+    ensures small { IfOk result (λ f. f.depth ≤ left) }
     ensures err { IfErr result (IsRefused source.now.tokens.now) }
 {
     skip(source.tokens, at, 2);

@@ -1,12 +1,16 @@
 //! The parser on small sources, and at its limits.
 
+mod cases;
+mod limits;
 mod print;
-mod probe;
+mod refused;
 
 use crate::{ParseErr, parse};
+use cases::{APPLIED, ATOMS, ITEMS, OPEN, OPERATORS, PATTERNS};
 use ml_lexer::lex;
 use oxml_base::Span;
 use print::{Page, items};
+use refused::{REFUSED, SPANS};
 use std::alloc::{AllocError, Global};
 use std::fmt::Write;
 use std::process::Abort;
@@ -47,6 +51,21 @@ fn check(rt: &impl Abort, alloc: Global, table: &[Case], spans: bool) -> Result<
 }
 
 #[test]
-fn probes(rt: HostRuntime) -> Result<(), Fail> {
-    check(&rt, rt.alloc(), &probe::PROBE, false)
+fn small_sources(rt: HostRuntime) -> Result<(), Fail> {
+    check(&rt, rt.alloc(), &ATOMS, false)?;
+    check(&rt, rt.alloc(), &APPLIED, false)?;
+    check(&rt, rt.alloc(), &OPERATORS, false)?;
+    check(&rt, rt.alloc(), &OPEN, false)?;
+    check(&rt, rt.alloc(), &ITEMS, false)?;
+    check(&rt, rt.alloc(), &PATTERNS, false)
+}
+
+#[test]
+fn refusals(rt: HostRuntime) -> Result<(), Fail> {
+    check(&rt, rt.alloc(), &REFUSED, false)
+}
+
+#[test]
+fn spans(rt: HostRuntime) -> Result<(), Fail> {
+    check(&rt, rt.alloc(), &SPANS, true)
 }
