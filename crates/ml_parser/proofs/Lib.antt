@@ -6,3 +6,4 @@ mod Levels
 mod OpenForms
 mod Programs
 mod Unique
+mod Ranks

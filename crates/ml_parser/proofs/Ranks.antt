@@ -1,0 +1,16 @@
+-- How far up in the grammar the readers of lists stand.
+use Rattle.std.proofs.Common.{ℕ}
+use Rattle.ml_parser.specs.declared.looks.ListKind.{ListKind}
+use Rattle.ml_parser.specs.declared.looks.ListKind.TheVariants as Q
+
+abbrev pub part_rank : ListKind → ℕ
+part_rank Q.Arguments = 5
+part_rank Q.Parts = 9
+part_rank Q.Statements = 11
+part_rank Q.Elements = 11
+
+abbrev pub parts_rank : ListKind → ℕ
+parts_rank Q.Arguments = 6
+parts_rank Q.Parts = 10
+parts_rank Q.Statements = 12
+parts_rank Q.Elements = 12
