@@ -43,7 +43,7 @@ pub moved : {A : Type 0} {x y : A} {d c : ℕ} {r s : List Token} (P : A → ℕ
 moved {A} {x} {y} {d} {c} {r} {s} P i h = subst (λ s'. P x d s') i.rest (subst (λ c'. P x c' s) i.depth (subst (λ y'. P y' c s) i.tree h))
 
 -- a part made of one part, of two, and of three
-made : {A B : Type 0} {x y : A} {d c : ℕ} {r s : List Token} (f : A → List Token → B) (g : ℕ → ℕ) (h : List Token → List Token) → Same x y d c r s → Same (f x r) (f y s) (g d) (g c) (h r) (h s)
+pub made : {A B : Type 0} {x y : A} {d c : ℕ} {r s : List Token} (f : A → List Token → B) (g : ℕ → ℕ) (h : List Token → List Token) → Same x y d c r s → Same (f x r) (f y s) (g d) (g c) (h r) (h s)
 made {A} {B} {x} {y} {d} {c} {r} {s} f g h i = record { tree = ap (λ y'. f y' s) i.tree ∙ ap (λ s'. f x s') i.rest; depth = ap g i.depth; rest = ap h i.rest }
 
 made2 : {A B C : Type 0} {x y : A} {d c : ℕ} {r s : List Token} {x2 y2 : B} {d2 c2 : ℕ} {r2 s2 : List Token} (f : A → List Token → B → List Token → C) (g : ℕ → ℕ → ℕ) (h : List Token → List Token) → Same x y d c r s → Same x2 y2 d2 c2 r2 s2 → Same (f x r x2 r2) (f y s y2 s2) (g d d2) (g c c2) (h r2) (h s2)
