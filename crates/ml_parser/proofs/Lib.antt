@@ -5,4 +5,5 @@ mod Items
 mod Levels
 mod OpenForms
 mod Programs
+mod Shorter
 mod Unique
