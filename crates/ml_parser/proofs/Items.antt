@@ -16,8 +16,8 @@ use Rattle.ml_tree.specs.declared.expr.FieldExpr.{FieldExpr}
 use Rattle.ml_parser.specs.declared.looks.ListKind.{ListKind}
 use Rattle.ml_parser.specs.Looks.{goes_on, next, behind, is_else, is_colon, binds_function}
 use Rattle.ml_parser.specs.Trees.{arm, bind, field, gathered, name_pattern, pun}
-use Rattle.ml_parser.specs.Stubs.{ReadsPattern, ReadsParams}
-use Rattle.ml_parser.specs.Grammar.{Kind, ItemOf, exprs, fields, arms, binds, part_of, listed, tuple, seq, more, to_next, past, HasType, ResultBy, TargetBy, Reads, ListedBy, ElseBy, GuardBy, Lists, ItemBy, a_list_of, alone, several, the_last, one_more, an_expression, a_set_field, a_pun, an_arm, a_bind, no_else, an_else, no_guard, a_guard, function_target, pattern_target, no_result, result}
+use Rattle.ml_parse_patterns.specs.Patterns.{ReadsParams}
+use Rattle.ml_parser.specs.Grammar.{Kind, ItemOf, exprs, fields, arms, binds, part_of, listed, tuple, seq, more, ReadsPattern, to_next, past, HasType, ResultBy, TargetBy, Reads, ListedBy, ElseBy, GuardBy, Lists, ItemBy, a_list_of, alone, several, the_last, one_more, an_expression, a_set_field, a_pun, an_arm, a_bind, no_else, an_else, no_guard, a_guard, function_target, pattern_target, no_result, result}
 use Rattle.ml_parser.specs.Readings.{IsRead, AreDeep, IsListed, Until, until, Behind, behind_it, Results, results, Values, values, Actions, actions, Branches, branches}
 use Rattle.ml_parser.proofs.Deep.{Inside, inside, Along, along, deep_inside, deep_along, never, read_as, deep_at}
 use Rattle.ml_parser.proofs.Growth.{positive, listed_grows}

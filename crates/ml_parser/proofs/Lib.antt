@@ -5,5 +5,6 @@ mod Items
 mod Levels
 mod OpenForms
 mod Programs
+mod Shorter
 mod Unique
 mod Ranks

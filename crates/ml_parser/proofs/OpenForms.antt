@@ -17,7 +17,7 @@ use Rattle.ml_parser.specs.declared.looks.Lead.TheVariants as O
 use Rattle.ml_parser.specs.declared.looks.ListKind.TheVariants as Q
 use Rattle.ml_parser.specs.Looks.{second, lead, is_rec, is_else, behind_rec, behind_bar}
 use Rattle.ml_parser.specs.Trees.{node, end_of, end_behind, end_of_arm, end_of_branches}
-use Rattle.ml_parser.specs.Stubs.{ReadsParams}
+use Rattle.ml_parse_patterns.specs.Patterns.{ReadsParams}
 use Rattle.ml_parser.specs.Grammar.{seq, tuple, operators, listed, arms, binds, Borrows, Reads, OperandBy, ConBy, ElseBy, Lists, an_operand, an_apply, a_constructor, a_minus, a_word, an_overwrite, a_let, a_borrow, a_match, a_function, a_fun, an_if, an_exclave}
 use Rattle.ml_parser.specs.Readings.{IsRead, AreDeep, Until, until, Behind, behind_it, Branches, branches}
 use Rattle.ml_parser.proofs.Deep.{Inside, inside, Along, along, deep_inside, deep_along, never, read_as, read_at, deep_at}

@@ -21,8 +21,9 @@ use Rattle.ml_tree.specs.declared.expr.ExprKind.TheVariants as E
 use Rattle.ml_cursor.specs.Places.{first_span, Takes}
 use Rattle.oxml_base.specs.declared.span.Span.{Span}
 use Rattle.ml_cursor.specs.declared.front.Front.TheVariants.{CloseParen, CloseBracket, CloseBrace, Colon, End, Lower, Equal, With}
-use Rattle.ml_parser.specs.Stubs.{ReadsPattern, ReadsParams}
-use Rattle.ml_parser.specs.Grammar.{Borrows, borrows, Part, tuple, seq, operators, arms, Kind, ItemOf, HasType, ResultBy, no_result, result, TargetBy, function_target, pattern_target, Reads, AtomBy, SuffixBy, ListedBy, LevelBy, OperandBy, ConBy, ElseBy, GuardBy, Lists, ItemBy, more, to_next, past, an_atom, a_simple, an_operand, a_level, a_list_of, a_leaf, a_text, a_paren, a_typed, a_begin, a_list, a_record, no_suffix, a_field, an_index, alone, several, no_operator, to_left, to_right, an_apply, a_constructor, a_minus, a_word, an_overwrite, a_let, a_borrow, a_match, a_function, a_fun, an_if, an_exclave, a_block, a_cell, no_else, an_else, no_guard, a_guard, the_last, one_more, an_expression, a_set_field, a_pun, an_arm, a_bind}
+use Rattle.ml_parse_patterns.specs.Patterns.{ReadsParams}
+use Rattle.ml_parse_patterns.proofs.Unique.{same as same_level_pattern, same_params as same_parameters}
+use Rattle.ml_parser.specs.Grammar.{ReadsPattern, Borrows, borrows, Part, tuple, seq, operators, arms, Kind, ItemOf, HasType, ResultBy, no_result, result, TargetBy, function_target, pattern_target, Reads, AtomBy, SuffixBy, ListedBy, LevelBy, OperandBy, ConBy, ElseBy, GuardBy, Lists, ItemBy, more, to_next, past, an_atom, a_simple, an_operand, a_level, a_list_of, a_leaf, a_text, a_paren, a_typed, a_begin, a_list, a_record, no_suffix, a_field, an_index, alone, several, no_operator, to_left, to_right, an_apply, a_constructor, a_minus, a_word, an_overwrite, a_let, a_borrow, a_match, a_function, a_fun, an_if, an_exclave, a_block, a_cell, no_else, an_else, no_guard, a_guard, the_last, one_more, an_expression, a_set_field, a_pun, an_arm, a_bind}
 use Rattle.ml_parse_types.specs.Types.{Got}
 use Rattle.ml_parse_types.proofs.Unique.{same_type as one_type}
 use Rattle.ml_lexer.proofs.Unique.{one_literal}
@@ -42,7 +43,7 @@ pub moved : {A : Type 0} {x y : A} {d c : ℕ} {r s : List Token} (P : A → ℕ
 moved {A} {x} {y} {d} {c} {r} {s} P i h = subst (λ s'. P x d s') i.rest (subst (λ c'. P x c' s) i.depth (subst (λ y'. P y' c s) i.tree h))
 
 -- a part made of one part, of two, and of three
-made : {A B : Type 0} {x y : A} {d c : ℕ} {r s : List Token} (f : A → List Token → B) (g : ℕ → ℕ) (h : List Token → List Token) → Same x y d c r s → Same (f x r) (f y s) (g d) (g c) (h r) (h s)
+pub made : {A B : Type 0} {x y : A} {d c : ℕ} {r s : List Token} (f : A → List Token → B) (g : ℕ → ℕ) (h : List Token → List Token) → Same x y d c r s → Same (f x r) (f y s) (g d) (g c) (h r) (h s)
 made {A} {B} {x} {y} {d} {c} {r} {s} f g h i = record { tree = ap (λ y'. f y' s) i.tree ∙ ap (λ s'. f x s') i.rest; depth = ap g i.depth; rest = ap h i.rest }
 
 made2 : {A B C : Type 0} {x y : A} {d c : ℕ} {r s : List Token} {x2 y2 : B} {d2 c2 : ℕ} {r2 s2 : List Token} (f : A → List Token → B → List Token → C) (g : ℕ → ℕ → ℕ) (h : List Token → List Token) → Same x y d c r s → Same x2 y2 d2 c2 r2 s2 → Same (f x r x2 r2) (f y s y2 s2) (g d d2) (g c c2) (h r2) (h s2)
@@ -68,10 +69,10 @@ pub same_literal : {text : List ℕ} {t : Token} {bs cs : List ℕ} → IsLitera
 same_literal {text} {t} {bs} {cs} a b = one_literal text t cs bs b a
 
 pub one_pattern : {text : List ℕ} {ts r s : List Token} {p q : Pat} {d c : ℕ} → ReadsPattern text ts p d r → ReadsPattern text ts q c s → Same p q d c r s
-one_pattern x y = ?
+one_pattern x y = let i = same_level_pattern x y in record { tree = i.tree; depth = i.depth; rest = i.rest }
 
 pub one_params : {text : List ℕ} {ts r s : List Token} {p q : List Param} {d c : ℕ} → ReadsParams text ts p d r → ReadsParams text ts q c s → Same p q d c r s
-one_params x y = ?
+one_params x y = let i = same_parameters x y in record { tree = i.tree; depth = i.depth; rest = i.rest }
 
 pub same_type : {ts r s : List Token} {t u : TyExpr} → HasType ts t r → HasType ts u s → Same t u 0 0 r s
 same_type x y = let e = one_type y x in record { tree = ap (λ (g : Got TyExpr). g.value) e; depth = refl; rest = ap (λ (g : Got TyExpr). g.rest) e }

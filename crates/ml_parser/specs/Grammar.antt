@@ -36,7 +36,8 @@ use Rattle.ml_parser.specs.Looks.{second, atom_lead, suffix, lead, operator_at, 
 use Rattle.ml_parser.specs.Trees.{node, start_of, end_of, arm, bind, field, end_behind, end_of_arm, end_of_branches, width, leaf, joined, gathered, name_pattern, pun}
 use Rattle.ml_parse_types.specs.declared.looks.Row.TheVariants.{Factors}
 use Rattle.ml_parse_types.specs.Types.{ReadsType, got}
-use Rattle.ml_parser.specs.Stubs.{ReadsPattern, ReadsParams}
+use Rattle.ml_parse_patterns.specs.declared.looks.Level.TheVariants.{Pattern}
+use Rattle.ml_parse_patterns.specs.Patterns.{Reads as ReadsLevel, ReadsParams}
 
 pub data Part : Type 0 where
   -- a number, a name, a constant, or what brackets enclose
@@ -94,6 +95,10 @@ past (exprs q) ts = behind q ts
 past fields ts = behind_semi ts
 past arms ts = ts
 past binds ts = ts
+
+-- a pattern of any level
+abbrev pub ReadsPattern : List ℕ → List Token → Pat → ℕ → List Token → Type 0
+ReadsPattern text ts p d rest = ReadsLevel text Pattern ts p d rest
 
 -- a type; its depth is at most 1,000 and no part of an expression's
 abbrev pub HasType : List Token → TyExpr → List Token → Type 0

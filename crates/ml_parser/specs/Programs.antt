@@ -6,6 +6,8 @@ use Rattle.ml_cursor.specs.Fronts.{front}
 use Rattle.ml_cursor.specs.Places.{span, first_span, extent}
 use Rattle.ml_tree.specs.declared.expr.Bind.{Bind}
 use Rattle.ml_tree.specs.declared.types.Decl.{Decl}
+use Rattle.ml_numbers.specs.Numbered.{numbered}
+use Rattle.ml_tree.specs.declared.program.Program.{Program}
 use Rattle.ml_tree.specs.declared.program.Item.{Item}
 use Rattle.ml_tree.specs.declared.program.ItemKind.{ItemKind}
 use Rattle.ml_tree.specs.declared.program.ItemKind.TheVariants as K
@@ -24,18 +26,35 @@ let_item ts bs =
 abbrev pub types_item : List Token → List Decl → List Token → Item
 types_item ts ds rest = record { id = 0; span = extent ts rest; kind = K.Types ds }
 
--- the items of all tokens, by what stands first; their depth is the greatest of theirs, to which a
--- declaration of types adds nothing
+-- an item by its first token, its depth, to which declarations of types add nothing, and what follows
+pub data AnItemBy (text : List ℕ) : ItemLead → List Token → Item → ℕ → List Token → Type 0 where
+  a_let_item : {ts rest : List Token} {bs : List Bind} {d : ℕ} →
+      Lists text binds (behind_rec (drop 1 ts)) bs d rest → AnItemBy text I.Let ts (let_item ts bs) d rest
+  a_types_item : {ts rest : List Token} {ds : List Decl} →
+      ReadsDecls (drop 1 ts) (got ds rest) → AnItemBy text I.Types ts (types_item ts ds rest) 0 rest
+
+abbrev pub AnItem : List ℕ → List Token → Item → ℕ → List Token → Type 0
+AnItem text ts i d rest = AnItemBy text (item_lead ts) ts i d rest
+
+-- the items of all tokens, with `;;` among them, by what stands first; their depth is the greatest of
+-- theirs
 pub data ItemsBy (text : List ℕ) : ItemLead → List Token → List Item → ℕ → Type 0 where
   no_item : {ts : List Token} → ItemsBy text I.End ts [] 0
   between : {ts : List Token} {is : List Item} {d : ℕ} →
       ItemsBy text (item_lead (drop 1 ts)) (drop 1 ts) is d → ItemsBy text I.SemiSemi ts is d
-  a_let_item : {ts us : List Token} {bs : List Bind} {is : List Item} {db d : ℕ} →
-      Lists text binds (behind_rec (drop 1 ts)) bs db us → ItemsBy text (item_lead us) us is d →
-      ItemsBy text I.Let ts (let_item ts bs ∷ is) (max db d)
-  a_types_item : {ts us : List Token} {ds : List Decl} {is : List Item} {d : ℕ} →
-      ReadsDecls (drop 1 ts) (got ds us) → ItemsBy text (item_lead us) us is d →
-      ItemsBy text I.Types ts (types_item ts ds us ∷ is) d
+  let_first : {ts us : List Token} {i : Item} {is : List Item} {di d : ℕ} →
+      AnItemBy text I.Let ts i di us → ItemsBy text (item_lead us) us is d → ItemsBy text I.Let ts (i ∷ is) (max di d)
+  types_first : {ts us : List Token} {i : Item} {is : List Item} {di d : ℕ} →
+      AnItemBy text I.Types ts i di us → ItemsBy text (item_lead us) us is d → ItemsBy text I.Types ts (i ∷ is) (max di d)
 
-abbrev pub Items : List ℕ → List Token → List Item → ℕ → Type 0
-Items text ts is d = ItemsBy text (item_lead ts) ts is d
+abbrev pub AreItems : List ℕ → List Token → List Item → ℕ → Type 0
+AreItems text ts is d = ItemsBy text (item_lead ts) ts is d
+
+-- exactly these tokens are the program: its items have a depth of at most 1,000, and its nodes and type
+-- expressions are numbered
+pub record Derives (text : List ℕ) (ts : List Token) (program : Program) : Type 0 where
+  pub items : List Item
+  pub depth : ℕ
+  pub reads : AreItems text ts items depth
+  pub small : depth ≤ 1000
+  pub program_is : program ≡ numbered items
