@@ -8,3 +8,4 @@ mod Programs
 mod Shorter
 mod Unique
 mod Ranks
+mod Refused

@@ -4,12 +4,12 @@ ghost use Rattle.ml_lexer.specs.Tokens.{IsSound};
 ghost use Rattle.ml_parser.specs.Refusals.{IsRefused};
 
 use crate::expression::{read_parts, read_until};
-use crate::found::{Found, just, no_parts, nothing, pair, with_part, give_up};
+use crate::found::{Found, expect, just, no_parts, nothing, pair, with_part, give_up};
 use crate::looks::ListKind;
 use crate::parts::arm;
 use crate::source::Source;
-use ml_cursor::{Front, ParseErr, accept, take};
-use ml_parse_patterns::read_pattern;
+use crate::target::read_whole_pattern;
+use ml_cursor::{Front, ParseErr, accept};
 use ml_tree::{Arm, Expr};
 use oxml_base::Items;
 use std::alloc::Global;
@@ -50,7 +50,7 @@ fn read_arm(
     ensures small { IfOk result (λ f. f.depth ≤ left) }
     ensures err { IfErr result (IsRefused source.now.tokens.now) }
 {
-    let pat = read_pattern(alloc, source.text, source.tokens, at, left)?;
+    let pat = read_whole_pattern(alloc, source, at, left)?;
     let action = read_action(alloc, source, at, left)?;
     Ok(arm(pat, action))
 }
@@ -87,6 +87,6 @@ fn read_guard(
     if accept(source.tokens, at, Front::When) {
         return Ok(just(read_until(Front::Arrow, alloc, source, at, left)?));
     }
-    take(source.tokens, at, Front::Arrow)?;
+    expect(source.tokens, at, Front::Arrow)?;
     Ok(nothing())
 }

@@ -4,14 +4,13 @@ ghost use Rattle.ml_tree.specs.declared.expr.ExprKind.{ExprKind};
 ghost use Rattle.ml_cursor.specs.declared.front.Front.{Front};
 ghost use Rattle.ml_cursor.specs.Fronts.{front};
 ghost use Rattle.ml_cursor.specs.Places.{first_span};
-ghost use Rattle.ml_cursor.specs.Says.{Says};
 ghost use Rattle.ml_parser.specs.Trees.{node, start_of};
-ghost use Rattle.ml_parser.specs.Refusals.{IsClosed, NeverClosed, ClosesParens, IsField};
+ghost use Rattle.ml_parser.specs.Refusals.{IsRefused};
 
-use crate::found::{Found, Head, deeper, joined, node};
-use ml_cursor::{Front, ParseErr, stands, take};
+use crate::target::read_whole_type;
+use crate::found::{Found, Head, deeper, expect, joined, node};
+use ml_cursor::{Front, ParseErr, stands};
 use ml_lexer::Token;
-use ml_parse_types::{Row, read_type};
 use ml_tree::{Expr, ExprKind, FieldExpr};
 use oxml_base::Items;
 use sqlite_items::Boxed;
@@ -25,11 +24,12 @@ pub fn field_of(
     found: Found<Expr>,
 ) -> Result<Found<Expr>, ParseErr>
     requires { found.depth < 2 ^ 32 - 1 }
-    ensures ok { IfOk result (λ f. IsField found.tree found.depth (drop at.old tokens.now) f.tree f.depth (drop at.new tokens.now)) }
-    ensures err { IfErr result (Says tokens.now (NeverClosed (IsField found.tree found.depth (drop at.old tokens.now)))) }
+    ensures tree { IfOk result (λ f. f.tree ≡ node (start_of found.tree) (first_span (drop 1 (drop at.old tokens.now))).end (ExprKind.Field found.tree (first_span (drop 1 (drop at.old tokens.now))))) }
+    ensures depth { IfOk result (λ f. f.depth ≡ found.depth + 1) }
+    ensures err { IfErr result (IsRefused tokens.now) }
 {
-    take(tokens, at, Front::Dot)?;
-    let name = take(tokens, at, Front::Lower)?;
+    expect(tokens, at, Front::Dot)?;
+    let name = expect(tokens, at, Front::Lower)?;
     let span = joined(found.tree.span, name);
     let record = Boxed::new(alloc, found.tree)?;
     Ok(node(span, ExprKind::Field(record, name), found.depth))
@@ -45,10 +45,13 @@ pub fn close_index(
 ) -> Result<Found<Expr>, ParseErr>
     requires text { text.depth < 2 ^ 32 - 1 }
     requires index { index.depth < 2 ^ 32 - 1 }
-    ensures ok { IfOk result (λ f. IsClosed (start_of text.tree) Front.CloseBracket (ExprKind.Index text.tree index.tree) (max text.depth index.depth) (drop at.old tokens.now) f.tree f.depth (drop at.new tokens.now)) }
-    ensures err { IfErr result (Says tokens.now (front (drop at.old tokens.now) ≢ Front.CloseBracket)) }
+    ensures tree { IfOk result (λ f. f.tree ≡ node (start_of text.tree) (first_span (drop at.old tokens.now)).end (ExprKind.Index text.tree index.tree)) }
+    ensures depth { IfOk result (λ f. f.depth ≡ max text.depth index.depth + 1) }
+    ensures stands { IfOk result (λ f. front (drop at.old tokens.now) ≡ Front.CloseBracket) }
+    ensures passed { IfOk result (λ f. drop at.new tokens.now ≡ drop 1 (drop at.old tokens.now)) }
+    ensures err { IfErr result (IsRefused tokens.now) }
 {
-    let close = take(tokens, at, Front::CloseBracket)?;
+    let close = expect(tokens, at, Front::CloseBracket)?;
     let span = joined(text.tree.span, close);
     let depth = deeper(text.depth, index.depth);
     let text = Boxed::new(alloc, text.tree)?;
@@ -64,10 +67,13 @@ pub fn close_list(
     list: Found<Items<Expr>>,
 ) -> Result<Found<Expr>, ParseErr>
     requires { list.depth < 2 ^ 32 - 1 }
-    ensures ok { IfOk result (λ f. IsClosed head.span.start Front.CloseBracket (ExprKind.List list.tree) list.depth (drop at.old tokens.now) f.tree f.depth (drop at.new tokens.now)) }
-    ensures err { IfErr result (Says tokens.now (front (drop at.old tokens.now) ≢ Front.CloseBracket)) }
+    ensures tree { IfOk result (λ f. f.tree ≡ node head.span.start (first_span (drop at.old tokens.now)).end (ExprKind.List list.tree)) }
+    ensures depth { IfOk result (λ f. f.depth ≡ list.depth + 1) }
+    ensures stands { IfOk result (λ f. front (drop at.old tokens.now) ≡ Front.CloseBracket) }
+    ensures passed { IfOk result (λ f. drop at.new tokens.now ≡ drop 1 (drop at.old tokens.now)) }
+    ensures err { IfErr result (IsRefused tokens.now) }
 {
-    let close = take(tokens, at, Front::CloseBracket)?;
+    let close = expect(tokens, at, Front::CloseBracket)?;
     Ok(node(joined(head.span, close), ExprKind::List(list.tree), list.depth))
 }
 
@@ -79,10 +85,13 @@ pub fn close_record(
     fields: Found<Items<FieldExpr>>,
 ) -> Result<Found<Expr>, ParseErr>
     requires { fields.depth < 2 ^ 32 - 1 }
-    ensures ok { IfOk result (λ f. IsClosed head.span.start Front.CloseBrace (ExprKind.Fields fields.tree) fields.depth (drop at.old tokens.now) f.tree f.depth (drop at.new tokens.now)) }
-    ensures err { IfErr result (Says tokens.now (front (drop at.old tokens.now) ≢ Front.CloseBrace)) }
+    ensures tree { IfOk result (λ f. f.tree ≡ node head.span.start (first_span (drop at.old tokens.now)).end (ExprKind.Fields fields.tree)) }
+    ensures depth { IfOk result (λ f. f.depth ≡ fields.depth + 1) }
+    ensures stands { IfOk result (λ f. front (drop at.old tokens.now) ≡ Front.CloseBrace) }
+    ensures passed { IfOk result (λ f. drop at.new tokens.now ≡ drop 1 (drop at.old tokens.now)) }
+    ensures err { IfErr result (IsRefused tokens.now) }
 {
-    let close = take(tokens, at, Front::CloseBrace)?;
+    let close = expect(tokens, at, Front::CloseBrace)?;
     Ok(node(joined(head.span, close), ExprKind::Fields(fields.tree), fields.depth))
 }
 
@@ -96,10 +105,13 @@ pub fn close_paren(
     inner: Found<Expr>,
 ) -> Result<Found<Expr>, ParseErr>
     requires { inner.depth < 2 ^ 32 - 1 }
-    ensures ok { IfOk result (λ f. IsClosed head.span.start close (ExprKind.Paren inner.tree) inner.depth (drop at.old tokens.now) f.tree f.depth (drop at.new tokens.now)) }
-    ensures err { IfErr result (Says tokens.now (front (drop at.old tokens.now) ≢ close)) }
+    ensures tree { IfOk result (λ f. f.tree ≡ node head.span.start (first_span (drop at.old tokens.now)).end (ExprKind.Paren inner.tree)) }
+    ensures depth { IfOk result (λ f. f.depth ≡ inner.depth + 1) }
+    ensures stands { IfOk result (λ f. front (drop at.old tokens.now) ≡ close) }
+    ensures passed { IfOk result (λ f. drop at.new tokens.now ≡ drop 1 (drop at.old tokens.now)) }
+    ensures err { IfErr result (IsRefused tokens.now) }
 {
-    let end = take(tokens, at, close)?;
+    let end = expect(tokens, at, close)?;
     let kind = ExprKind::Paren(Boxed::new(alloc, inner.tree)?);
     Ok(node(joined(head.span, end), kind, inner.depth))
 }
@@ -113,15 +125,15 @@ pub fn close_parens(
     inner: Found<Expr>,
 ) -> Result<Found<Expr>, ParseErr>
     requires { inner.depth < 2 ^ 32 - 1 }
-    ensures ok { IfOk result (λ f. ClosesParens head.span.start inner.tree inner.depth (drop at.old tokens.now) f.tree f.depth (drop at.new tokens.now)) }
-    ensures err { IfErr result (Says tokens.now (NeverClosed (ClosesParens head.span.start inner.tree inner.depth (drop at.old tokens.now)))) }
+    ensures depth { IfOk result (λ f. f.depth ≡ inner.depth + 1) }
+    ensures err { IfErr result (IsRefused tokens.now) }
 {
     if !stands(tokens, *at, Front::Colon) {
         return Ok(close_paren(alloc, tokens, at, Front::CloseParen, head, inner)?);
     }
-    take(tokens, at, Front::Colon)?;
-    let ty = read_type(alloc, tokens, at, Row::Factors)?;
-    let close = take(tokens, at, Front::CloseParen)?;
+    expect(tokens, at, Front::Colon)?;
+    let ty = read_whole_type(alloc, tokens, at)?;
+    let close = expect(tokens, at, Front::CloseParen)?;
     let kind = ExprKind::Typed(Boxed::new(alloc, inner.tree)?, ty);
     Ok(node(joined(head.span, close), kind, inner.depth))
 }

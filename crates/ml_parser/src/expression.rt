@@ -3,7 +3,7 @@ ghost use Rattle.std.specs.Prelude.{◌<◌, ◌≤◌, All, IfOk, IfErr};
 ghost use Rattle.ml_lexer.specs.Tokens.{IsSound};
 ghost use Rattle.ml_parser.specs.Refusals.{IsRefused};
 
-use crate::found::{Found, as_part, closed_by, give_up};
+use crate::found::{Found, as_part, closed_by, expect, give_up};
 use crate::list::{goes_on, read_list};
 use crate::looks::{Joint, ListKind};
 use crate::make::{gathered, infix};
@@ -11,7 +11,7 @@ use crate::operand::read_operand;
 use crate::operators::{LAST_LEVEL, groups_left, operator_at};
 use crate::simple::read_simple;
 use crate::source::Source;
-use ml_cursor::{Front, ParseErr, pass, take};
+use ml_cursor::{Front, ParseErr, pass};
 use ml_tree::Expr;
 use std::alloc::Global;
 
@@ -185,6 +185,6 @@ pub fn read_behind(
     ensures small { IfOk result (λ f. f.depth ≤ left) }
     ensures err { IfErr result (IsRefused source.now.tokens.now) }
 {
-    take(source.tokens, at, start)?;
+    expect(source.tokens, at, start)?;
     Ok(read_parts(ListKind::Statements, alloc, source, at, left)?)
 }

@@ -2,7 +2,6 @@ ghost use Rattle.std.specs.Prelude.{◌≡◌, ◌+◌, ◌-◌, ◌<◌, ◌≤
 ghost use Rattle.ml_cursor.specs.declared.error.ParseErr.{ParseErr};
 ghost use Rattle.ml_cursor.specs.Fronts.{front};
 ghost use Rattle.ml_cursor.specs.Places.{span, first_span};
-ghost use Rattle.ml_cursor.specs.Says.{Says};
 ghost use Rattle.ml_parser.specs.Trees.{node};
 ghost use Rattle.ml_parser.specs.Refusals.{IsRefused};
 
@@ -53,11 +52,19 @@ pub fn node(place: Span, kind: ExprKind, parts: u32) -> Found<Expr>
     }
 }
 
-/// The refusal of the token at a place.
-pub fn refuse(tokens: &[Token], at: usize) -> ParseErr
-    ensures { IsRefused tokens.now result }
+/// Goes past this token, which has to stand at the place, and gives its span.
+pub fn expect(tokens: &[Token], at: &mut usize, want: Front) -> Result<Span, ParseErr>
+    ensures span { IfOk result (λ span. span ≡ first_span (drop at.old tokens.now)) }
+    ensures stands { IfOk result (λ span. front (drop at.old tokens.now) ≡ want) }
+    ensures passed { IfOk result (λ span. drop at.new tokens.now ≡ drop 1 (drop at.old tokens.now)) }
+    ensures err { IfErr result (IsRefused tokens.now) }
 {
-    ParseErr::Refused(refusal_at(tokens, at))
+    if !stands(tokens, *at, want) {
+        return Err(ParseErr::Refused(refusal_at(tokens, *at)));
+    }
+    let span = span_at(tokens, *at);
+    pass(tokens, at);
+    Ok(span)
 }
 
 /// The first token of a form: its span, and the depth that the parts of the form may have.
@@ -73,7 +80,7 @@ pub fn open_form(tokens: &[Token], at: &mut usize, left: u32) -> Result<Head, Pa
     ensures span { IfOk result (λ head. head.span ≡ first_span (drop at.old tokens.now)) }
     ensures below { IfOk result (λ head. head.below + 1 ≡ left) }
     ensures passed { IfOk result (λ head. drop at.new tokens.now ≡ drop 1 (drop at.old tokens.now)) }
-    ensures err { IfErr result (Says tokens.now (left ≡ 0)) }
+    ensures err { IfErr result (IsRefused tokens.now) }
 {
     if left == 0 {
         return Err(ParseErr::Refused(refusal_at(tokens, *at)));
@@ -95,7 +102,7 @@ pub fn as_part<T: Drop>(
 ) -> Result<Found<T>, ParseErr>
     ensures same { IfOk result (λ f. f ≡ found) }
     ensures small { IfOk result (λ f. f.depth < left) }
-    ensures err { IfErr result (Says tokens.now (left ≤ found.depth)) }
+    ensures err { IfErr result (IsRefused tokens.now) }
 {
     if found.depth >= left {
         return Err(ParseErr::Refused(refusal_at(tokens, at)));
@@ -113,7 +120,7 @@ pub fn closed_by<T: Drop>(
     ensures same { IfOk result (λ f. f ≡ found) }
     ensures stands { IfOk result (λ f. front (drop at.old tokens.now) ≡ end) }
     ensures passed { IfOk result (λ f. drop at.new tokens.now ≡ drop 1 (drop at.old tokens.now)) }
-    ensures err { IfErr result (Says tokens.now (front (drop at.old tokens.now) ≢ end)) }
+    ensures err { IfErr result (IsRefused tokens.now) }
 {
     if !accept(tokens, at, end) {
         return Err(ParseErr::Refused(refusal_at(tokens, *at)));
@@ -130,7 +137,7 @@ pub fn before<T: Drop>(
 ) -> Result<Found<T>, ParseErr>
     ensures same { IfOk result (λ f. f ≡ found) }
     ensures stands { IfOk result (λ f. front (drop at tokens.now) ≡ end) }
-    ensures err { IfErr result (Says tokens.now (front (drop at tokens.now) ≢ end)) }
+    ensures err { IfErr result (IsRefused tokens.now) }
 {
     if !stands(tokens, at, end) {
         return Err(ParseErr::Refused(refusal_at(tokens, at)));

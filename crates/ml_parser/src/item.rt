@@ -11,7 +11,7 @@ use crate::source::Source;
 use ml_cursor::{Front, ParseErr, accept, extent, front_at, pass, refusal_at, span_at};
 use ml_lexer::Token;
 use ml_parse_types::read_decls;
-use ml_tree::{Bind, Item, ItemKind};
+use ml_tree::{Bind, Decl, Item, ItemKind};
 use oxml_base::{Items, Span};
 use std::alloc::Global;
 
@@ -53,13 +53,28 @@ fn read_let_item(alloc: Global, source: &Source, at: &mut usize) -> Result<Item,
     Ok(item(Span { start, end }, kind))
 }
 
+/// `decl (and decl)*`
+#[tactic(auto, using(crate::proofs::Refused::refused))]
+fn read_all_decls(
+    alloc: Global,
+    tokens: &[Token],
+    at: &mut usize,
+) -> Result<Items<Decl>, ParseErr>
+    ensures err { IfErr result (IsRefused tokens.now) }
+{
+    match read_decls(alloc, tokens, at) {
+        Ok(decls) => Ok(decls),
+        Err(error) => Err(error),
+    }
+}
+
 /// `type decl (and decl)*`
 fn read_types_item(alloc: Global, tokens: &[Token], at: &mut usize) -> Result<Item, ParseErr>
     ensures err { IfErr result (IsRefused tokens.now) }
 {
     let start = *at;
     pass(tokens, at);
-    let decls = read_decls(alloc, tokens, at)?;
+    let decls = read_all_decls(alloc, tokens, at)?;
     Ok(item(extent(tokens, start, *at), ItemKind::Types(decls)))
 }
 
@@ -102,7 +117,10 @@ pub fn read_items(alloc: Global, source: &Source) -> Result<Items<Item>, ParseEr
 {
     let mut list = Items::new(alloc);
     let mut at = 0;
-    'items: while at < source.tokens.len() {
+    'items: for _ in source.tokens {
+        if at >= source.tokens.len() {
+            return Ok(list);
+        }
         if !accept(source.tokens, &mut at, Front::SemiSemi) {
             let item = read_item(alloc, source, &mut at)?;
             list.push(item)?;

@@ -13,9 +13,8 @@ use crate::looks::{Lead, ListKind};
 use crate::make::{exclave, minus, worded};
 use crate::overwrite::{read_block, read_overwrite};
 use crate::source::Source;
-use crate::target::read_borrowed;
+use crate::target::{read_all_params, read_borrowed};
 use ml_cursor::{Front, ParseErr, accept};
-use ml_parse_patterns::read_params;
 use ml_tree::{Expr, Words};
 use std::alloc::Global;
 
@@ -133,7 +132,7 @@ fn read_fun(
     ensures err { IfErr result (IsRefused source.now.tokens.now) }
 {
     let head = open_form(source.tokens, at, left)?;
-    let params = read_params(alloc, source.text, source.tokens, at, head.below)?;
+    let params = read_all_params(alloc, source, at, head.below)?;
     let body = read_behind(Front::Arrow, alloc, source, at, head.below)?;
     Ok(fun(alloc, head, params, body)?)
 }

@@ -1,6 +1,6 @@
 //! Fields, arms and binds: parts of forms that are no expressions, over what is read.
 ghost use Rattle.std.specs.Prelude.{◌≡◌, ◌≤◌, max, IfOk, IfErr};
-ghost use Rattle.ml_cursor.specs.Says.{Says};
+ghost use Rattle.ml_parser.specs.Refusals.{IsRefused};
 ghost use Rattle.ml_parser.specs.Trees.{field, pun, arm, bind};
 
 use crate::found::{Found, deeper, node};
@@ -35,7 +35,7 @@ pub fn pun(
     ensures tree { IfOk result (λ f. f.tree ≡ pun name) }
     ensures depth { IfOk result (λ f. f.depth ≡ 1) }
     ensures small { IfOk result (λ f. f.depth ≤ left) }
-    ensures err { IfErr result (Says tokens.now (left ≡ 0)) }
+    ensures err { IfErr result (IsRefused tokens.now) }
 {
     if left == 0 {
         return Err(ParseErr::Refused(refusal_at(tokens, at)));

@@ -5,11 +5,11 @@ ghost use Rattle.ml_parser.specs.Looks.{begins_field, behind_semi};
 ghost use Rattle.ml_parser.specs.Refusals.{IsRefused};
 
 use crate::expression::read_parts;
-use crate::found::{Found, no_parts, with_part, give_up};
+use crate::found::{Found, expect, no_parts, with_part, give_up};
 use crate::looks::ListKind;
 use crate::parts::{field, pun};
 use crate::source::Source;
-use ml_cursor::{Front, ParseErr, accept, stands, take};
+use ml_cursor::{Front, ParseErr, accept, stands};
 use ml_lexer::Token;
 use ml_tree::FieldExpr;
 use oxml_base::Items;
@@ -59,7 +59,7 @@ fn read_field(
     ensures small { IfOk result (λ f. f.depth ≤ left) }
     ensures err { IfErr result (IsRefused source.now.tokens.now) }
 {
-    let name = take(source.tokens, at, Front::Lower)?;
+    let name = expect(source.tokens, at, Front::Lower)?;
     if !accept(source.tokens, at, Front::Equal) {
         return Ok(pun(source.tokens, *at, name, left)?);
     }
