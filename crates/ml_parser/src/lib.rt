@@ -10,6 +10,7 @@ mod expression;
 mod forms;
 mod found;
 mod item;
+pub mod laws;
 mod leaf;
 mod list;
 mod looks;
