@@ -39,6 +39,7 @@ pub fn read_part(
 
 /// A sequence, a tuple or an application: one part is itself, several are a node.
 #[cycle(expressions)]
+#[tactic(auto, using(crate::proofs::Ranks::part_below))]
 pub fn read_parts(
     kind: ListKind,
     alloc: Global,

@@ -70,6 +70,7 @@ pub fn goes_on(kind: ListKind, source: &Source, at: &mut usize) -> bool
 
 /// The parts of a list, one or more.
 #[cycle(expressions)]
+#[tactic(auto, using(crate::proofs::Ranks::part_small))]
 pub fn read_list(
     kind: ListKind,
     alloc: Global,
