@@ -10,9 +10,9 @@ use Rattle.ml_parse_patterns.specs.declared.looks.Level.{Level}
 use Rattle.ml_parse_patterns.specs.Readings.{IsFound, AreParams}
 use Rattle.ml_parser.specs.Refusals.{IsRefused}
 
-pub refused : {P : Type 0} {tokens : List Token} {e : ParseErr} → Says tokens P e → IsRefused tokens e
-refused {P} {tokens} {Refused r} h = (h.0, tt)
-refused {P} {tokens} {NoMemory} h = tt
+pub refused : (P : Type 0) (tokens : List Token) (e : ParseErr) → Says tokens P e → IsRefused tokens e
+refused P tokens (Refused r) h = (h.0, tt)
+refused P tokens NoMemory h = tt
 
 pub pattern_small : {text : List ℕ} {l : Level} {left : ℕ} {ts rest : List Token} {f : Found} → IsFound text l left ts rest f → f.depth ≤ left
 pattern_small h = h.small

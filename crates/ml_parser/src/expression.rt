@@ -75,7 +75,7 @@ pub fn read_operators(
     ensures err { IfErr result (IsRefused source.now.tokens.now) }
 {
     let mut found = read_operand(alloc, source, at, left)?;
-    for lower in 0..level {
+    'levels: for lower in 0..level {
         found = read_level(lower, alloc, source, at, found, left)?;
     }
     Ok(found)

@@ -141,8 +141,8 @@ invariant-arms::read_arms-arms l = l.list.depth ≤ l.left
 abbrev pub invariant-bind::read_binds-binds : goal.invariant-bind::read_binds-binds
 invariant-bind::read_binds-binds l = l.list.depth ≤ l.left
 
-abbrev pub invariant-expression::read_operators-lower : goal.invariant-expression::read_operators-lower
-invariant-expression::read_operators-lower l = l.found.depth ≤ l.left
+abbrev pub invariant-expression::read_operators-levels : goal.invariant-expression::read_operators-levels
+invariant-expression::read_operators-levels l = l.found.depth ≤ l.left
 
 abbrev pub invariant-expression::read_to_left-operators : goal.invariant-expression::read_to_left-operators
 invariant-expression::read_to_left-operators l = l.found.depth ≤ l.left
