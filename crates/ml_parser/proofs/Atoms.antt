@@ -1,14 +1,14 @@
 -- Atoms and constructors with an argument: where one of them is refused, and that it is found.
-use Rattle.std.proofs.Common.{◌≡◌, ◌≢◌, ℕ, ◌+◌, ◌-◌, ◌<◌, ◌≤◌, max, Bool, true, false, List, [], ◌∷◌, drop, Option, Some, None, refl, subst, ap, sym, ◌∙◌, arith}
+use Rattle.std.proofs.Common.{◌≡◌, ◌≢◌, ℕ, ◌+◌, ◌<◌, ◌≤◌, max, false, List, [], ◌∷◌, drop, Some, None, refl, subst, ap, sym, ◌∙◌, arith}
 use Rattle.std.specs.Prelude.{slice_get}
 use Rattle.oxml_base.specs.declared.span.Span.{Span}
 use Rattle.ml_lexer.specs.declared.token.Token.{Token}
+use Rattle.ml_lexer.specs.declared.token.TokenKind.TheVariants.{Text}
 use Rattle.ml_lexer.specs.Tokens.{IsLiteral}
 use Rattle.ml_cursor.specs.declared.front.Front.{Front}
 use Rattle.ml_cursor.specs.declared.front.Front.TheVariants as F
 use Rattle.ml_cursor.specs.Fronts.{front}
 use Rattle.ml_cursor.specs.Places.{first_span, Takes}
-use Rattle.ml_tree.specs.declared.types.TyExpr.{TyExpr}
 use Rattle.ml_tree.specs.declared.pattern.ConName.TheVariants.{Named}
 use Rattle.ml_tree.specs.declared.expr.Expr.{Expr}
 use Rattle.ml_tree.specs.declared.expr.FieldExpr.{FieldExpr}
@@ -18,11 +18,11 @@ use Rattle.ml_parser.specs.declared.looks.AtomLead.TheVariants as A
 use Rattle.ml_parser.specs.declared.looks.ListKind.TheVariants as Q
 use Rattle.ml_parser.specs.declared.looks.Joint.TheVariants.{Pair}
 use Rattle.ml_parser.specs.Looks.{atom_lead, groups_left, operator_at, operator, of_level}
-use Rattle.ml_parser.specs.Trees.{node, start_of, end_of, joined, leaf, width}
+use Rattle.ml_parser.specs.Trees.{node, end_of, joined, leaf, width}
 use Rattle.ml_parser.specs.declared.looks.Leaf.{Leaf}
-use Rattle.ml_parser.specs.Grammar.{atom, simple, seq, operators, exprs, fields, HasType, Reads, AtomBy, ConBy, LevelBy, Lists, no_operator, to_left, to_right, an_atom, a_leaf, a_text, a_paren, a_typed, a_begin, a_list, a_record, a_block, a_cell}
+use Rattle.ml_parser.specs.Grammar.{atom, simple, seq, operators, exprs, fields, Reads, AtomBy, ConBy, LevelBy, Lists, to_right, an_atom, a_leaf, a_text, a_paren, a_typed, a_begin, a_list, a_record, a_block, a_cell}
 use Rattle.ml_parser.specs.Readings.{IsRead, AreDeep, Levels, ClosesParens, closes_paren, closes_typed}
-use Rattle.ml_parser.proofs.Deep.{Inside, inside, Along, along, deep_inside, deep_along, never, read_as, deep_at}
+use Rattle.ml_parser.proofs.Deep.{Inside, inside, deep_inside, never, read_as, deep_at}
 use Rattle.ml_parser.proofs.Growth.{atom_positive, con_positive}
 use Rattle.ml_parser.proofs.Unique.{same, same_list, same_level, moved}
 
@@ -69,6 +69,7 @@ paren_not_closed {text} {ts} {us} {vs} {x} {c} {from} e f n = never (λ y d r q.
   where
     first : Reads text seq (drop 1 ts) x c vs
     first = subst (λ us. Reads text seq us x c vs) e f
+
     inner : {y : Expr} {d : ℕ} {r : List Token} → AtomBy text A.Paren ts y d r → ⊥
     inner (a_paren {rest = r} {s = s} z p) = n _ r (closes_paren (subst (λ us. Takes F.CloseParen us r s) (same first z).rest p))
     inner (a_typed {vs = vs'} {rest = r} {c = c'} z p t q) = n _ r (closes_typed (subst (λ us. Takes F.Colon us vs' c') (same first z).rest p) t q)
@@ -95,6 +96,7 @@ begin_not_closed {text} {ts} {us} {vs} {x} {c} e f n = never (λ y d r q. inner 
   where
     first : Reads text seq (drop 1 ts) x c vs
     first = subst (λ us. Reads text seq us x c vs) e f
+
     inner : {y : Expr} {d : ℕ} {r : List Token} → AtomBy text A.Begin ts y d r → ⊥
     inner (a_begin z p) = n (ap front (sym (same first z).rest) ∙ p.stands)
 
@@ -116,6 +118,7 @@ list_not_closed {text} {ts} {us} {vs} {x} {c} e f n = never (λ y d r q. inner q
   where
     first : Lists text (exprs Q.Elements) (drop 1 ts) x c vs
     first = subst (λ us. Lists text (exprs Q.Elements) us x c vs) e f
+
     inner : {y : Expr} {d : ℕ} {r : List Token} → AtomBy text A.List ts y d r → ⊥
     inner (a_list z p) = n (ap front (sym (same_list first z).rest) ∙ p.stands)
 
@@ -137,6 +140,7 @@ fields_not_closed {text} {ts} {us} {vs} {x} {c} e f n = never (λ y d r q. inner
   where
     first : Lists text fields (drop 1 ts) x c vs
     first = subst (λ us. Lists text fields us x c vs) e f
+
     inner : {y : Expr} {d : ℕ} {r : List Token} → AtomBy text A.Record ts y d r → ⊥
     inner (a_record z p) = n (ap front (sym (same_list first z).rest) ∙ p.stands)
 
@@ -150,12 +154,24 @@ fields_read {text} {ts} {us} {vs} {r} {w = w} {x = x} {c = c} {left = left} f g 
 pub leaf_read : {text : List ℕ} {l : Leaf} {ts r : List Token} {e : Expr} {d left : ℕ} → r ≡ drop (width l) ts → e ≡ leaf l ts → d ≡ 1 → 0 < left → IsRead (AtomBy text (A.Leaf l) ts) left e d r
 leaf_read {text} {l} {ts} {r} {e} {d} f h k p = read_as r (subst (λ r. AtomBy text (A.Leaf l) ts (leaf l ts) 1 r) (sym f) a_leaf) h k (omega arith)
 
-pub text_read : {text : List ℕ} {t : Token} {ts r : List Token} {bytes : List ℕ} {e : Expr} {d left : ℕ} → slice_get ts 0 ≡ Some t → r ≡ drop 1 ts → IsLiteral text t bytes → e ≡ node t.span.start t.span.end (E.Text (record { bytes = bytes })) → d ≡ 1 → 0 < left → IsRead (AtomBy text A.Text ts) left e d r
-text_read {text} {t} {ts} {r} {bytes} {e} {d} f g i h k p = read_as r (subst (λ r. AtomBy text A.Text ts (node t.span.start t.span.end (E.Text (record { bytes = bytes }))) 1 r) (sym g) (made ts f)) h k (omega arith)
+pub text_read : {text : List ℕ} {t : Token} {ts r : List Token} {bytes : List ℕ} {e : Expr} {d left : ℕ} → slice_get ts 0 ≡ Some t → t.kind ≡ Text → r ≡ drop 1 ts → IsLiteral text t bytes → e ≡ node t.span.start t.span.end (E.Text (record { bytes = bytes })) → d ≡ 1 → 0 < left → IsRead (AtomBy text A.Text ts) left e d r
+text_read {text} {t} {ts} {r} {bytes} {e} {d} f v g i h k p = read_as r (subst (λ r. AtomBy text A.Text ts (node t.span.start t.span.end (E.Text (record { bytes = bytes }))) 1 r) (sym g) (made ts f)) h k (omega arith)
   where
     made : (ts : List Token) → slice_get ts 0 ≡ Some t → AtomBy text A.Text ts (node t.span.start t.span.end (E.Text (record { bytes = bytes }))) 1 (drop 1 ts)
     made [] q = none-some q
-    made (u ∷ us) q = subst (λ v. AtomBy text A.Text (v ∷ us) (node t.span.start t.span.end (E.Text (record { bytes = bytes }))) 1 us) (sym (some-some q)) (a_text i)
+    made (u ∷ us) q = subst (λ v. AtomBy text A.Text (v ∷ us) (node t.span.start t.span.end (E.Text (record { bytes = bytes }))) 1 us) (sym (some-some q)) (a_text v i)
+
+text_token : {text : List ℕ} {ts r : List Token} {e : Expr} {d : ℕ} {t : Token} → AtomBy text A.Text ts e d r → slice_get ts 0 ≡ Some t → t.kind ≡ Text
+text_token (a_text p x) q = ap (λ (t : Token). t.kind) (sym (some-some q)) ∙ p
+
+pub text_no_token : {text : List ℕ} {ts : List Token} {left : ℕ} → slice_get ts 0 ≡ None → AreDeep (AtomBy text A.Text ts) left
+text_no_token {text} {ts} e = never (λ y d r q. inner q e)
+  where
+    inner : {ts : List Token} {y : Expr} {d : ℕ} {r : List Token} → AtomBy text A.Text ts y d r → slice_get ts 0 ≡ None → ⊥
+    inner (a_text p x) q = none-some (sym q)
+
+pub text_other_kind : {text : List ℕ} {ts : List Token} {t : Token} {left : ℕ} → slice_get ts 0 ≡ Some t → t.kind ≢ Text → AreDeep (AtomBy text A.Text ts) left
+text_other_kind e n = never (λ y d r q. n (text_token q e))
 
 -- constructors with an argument
 
@@ -181,6 +197,7 @@ cell_no_pair {text} {ts} {us} {vs} {x} {c} e f n = never (λ y d r q. inner q)
   where
     first : Reads text (operators 3) (drop 1 ts) x c vs
     first = subst (λ us. Reads text (operators 3) us x c vs) e f
+
     inner : {y : Expr} {d : ℕ} {r : List Token} → ConBy text F.OpenParen ts y d r → ⊥
     inner (a_cell z p y q) = n (ap front (sym (same first z).rest) ∙ p)
 
@@ -195,7 +212,7 @@ four = refl
 pair_level : {text : List ℕ} {vs r : List Token} {a b : Expr} {da db : ℕ} → front vs ≡ F.ColonColon → Reads text (operators 4) (drop 1 vs) b db r → Levels text 3 a da vs (joined Pair a b) (max da db + 1) r
 pair_level {text} {vs} {r} {a} {b} {da} {db} p y =
     subst (λ g. LevelBy text 3 g (operator_at 4 vs) vs a da (joined Pair a b) (max da db + 1) r) (sym four)
-        (subst (λ o. LevelBy text 3 false o vs a da (joined Pair a b) (max da db + 1) r) (sym (pair_at vs p)) (to_right y))
+    (subst (λ o. LevelBy text 3 false o vs a da (joined Pair a b) (max da db + 1) r) (sym (pair_at vs p)) (to_right y))
 
 record Cell (text : List ℕ) (x : Expr) (c : ℕ) (vs : List Token) (w : Expr) (k : ℕ) (ws : List Token) : Type 0 where
   other : Expr
@@ -216,6 +233,7 @@ cell_deep_behind {text} {ts} {us} {vs} {x} {c} e b f h = deep_inside b (λ y d r
   where
     first : Reads text (operators 3) (drop 1 ts) x c vs
     first = subst (λ us. Reads text (operators 3) us x c vs) e f
+
     inner : {y : Expr} {d : ℕ} {r : List Token} → ConBy text F.OpenParen ts y d r → Inside (Levels text 3 x c vs) d
     inner (a_cell {us = us'} {vs = r} {a = a'} {b = b'} {da = da'} {db = db'} z p y q) =
         let i = same first z in
@@ -228,6 +246,7 @@ cell_not_closed {text} {ts} {us} {vs} {ws} {x} {w} {c} {k} e f l n = never (λ y
   where
     first : Reads text (operators 3) (drop 1 ts) x c vs
     first = subst (λ us. Reads text (operators 3) us x c vs) e f
+
     inner : {y : Expr} {d : ℕ} {r : List Token} → ConBy text F.OpenParen ts y d r → ⊥
     inner (a_cell {vs = r} {b = b'} {db = db'} z p y q) =
         let i = same first z in
@@ -241,6 +260,7 @@ cell_read {text} {ts} {us} {vs} {ws} {r} {s} {v} {x} {w} {e} {c} {k} {d} {left} 
   where
     first : Reads text (operators 3) (drop 1 ts) x c vs
     first = subst (λ us. Reads text (operators 3) us x c vs) f z
+
     made : Cell text x c vs w k ws → ConBy text F.OpenParen ts (node (first_span ts).start v.end (E.Paren w)) (k + 1) r
     made y = subst (λ w. ConBy text F.OpenParen ts (node (first_span ts).start v.end (E.Paren w)) (k + 1) r) (sym y.tree)
         (subst (λ k. ConBy text F.OpenParen ts (node (first_span ts).start v.end (E.Paren (joined Pair x y.other))) (k + 1) r) (sym y.depth_is) (a_cell first q y.reads t))

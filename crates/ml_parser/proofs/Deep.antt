@@ -1,5 +1,5 @@
 -- Parts that are too deep make wholes that are.
-use Rattle.std.proofs.Common.{◌≡◌, ℕ, ◌+◌, ◌-◌, ◌<◌, ◌≤◌, max, List, subst, sym, arith}
+use Rattle.std.proofs.Common.{◌≡◌, ℕ, ◌+◌, ◌<◌, ◌≤◌, max, List, subst, sym, arith}
 use Rattle.ml_lexer.specs.declared.token.Token.{Token}
 use Rattle.ml_cursor.specs.declared.error.ParseErr.{ParseErr}
 use Rattle.ml_cursor.specs.declared.error.ParseErr.TheVariants.{Refused, NoMemory}
@@ -29,18 +29,22 @@ pub along : {A : Type 0} {P : A → ℕ → List Token → Type 0} {d : ℕ} (x 
 along x c r p h = record { tree = x; depth = c; rest = r; reads = p; most = h }
 
 pub deep_inside : {A B : Type 0} {P : A → ℕ → List Token → Type 0} {Q : B → ℕ → List Token → Type 0} {left below : ℕ} → left ≤ below + 1 → ((y : B) (d : ℕ) (r : List Token) → Q y d r → Inside P d) → AreDeep P below → AreDeep Q left
-deep_inside {A} {B} {P} {Q} {left} {below} e f h = record { deep = λ y d r q.
-    let i = f y d r q in
-    let k = h.deep i.tree i.depth i.rest i.reads in
-    let l = i.less in
-    omega arith }
+deep_inside {A} {B} {P} {Q} {left} {below} e f h = record {
+  deep = λ y d r q.
+      let i = f y d r q in
+      let k = h.deep i.tree i.depth i.rest i.reads in
+      let l = i.less in
+      omega arith;
+}
 
 pub deep_along : {A B : Type 0} {P : A → ℕ → List Token → Type 0} {Q : B → ℕ → List Token → Type 0} {left : ℕ} → ((y : B) (d : ℕ) (r : List Token) → Q y d r → Along P d) → AreDeep P left → AreDeep Q left
-deep_along f h = record { deep = λ y d r q.
-    let i = f y d r q in
-    let k = h.deep i.tree i.depth i.rest i.reads in
-    let l = i.most in
-    omega arith }
+deep_along f h = record {
+  deep = λ y d r q.
+      let i = f y d r q in
+      let k = h.deep i.tree i.depth i.rest i.reads in
+      let l = i.most in
+      omega arith;
+}
 
 pub never : {B : Type 0} {Q : B → ℕ → List Token → Type 0} {left : ℕ} → ((y : B) (d : ℕ) (r : List Token) → Q y d r → ⊥) → AreDeep Q left
 never f = record { deep = λ y d r q. absurd (f y d r q) }

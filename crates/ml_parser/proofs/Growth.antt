@@ -1,5 +1,5 @@
 -- Each expression has a depth of one at least, and what goes on behind one makes it no less deep.
-use Rattle.std.proofs.Common.{◌≡◌, ℕ, ◌+◌, ◌<◌, ◌≤◌, max, Bool, List, Option, arith}
+use Rattle.std.proofs.Common.{ℕ, ◌<◌, ◌≤◌, Bool, List, Option, arith}
 use Rattle.ml_lexer.specs.declared.token.Token.{Token}
 use Rattle.ml_cursor.specs.declared.front.Front.{Front}
 use Rattle.ml_tree.specs.declared.expr.Expr.{Expr}
@@ -26,7 +26,7 @@ listed_grows (several x) = omega arith
 
 pub atom_positive : {text : List ℕ} {l : AtomLead} {ts r : List Token} {e : Expr} {d : ℕ} → AtomBy text l ts e d r → 0 < d
 atom_positive a_leaf = omega arith
-atom_positive (a_text x) = omega arith
+atom_positive (a_text p x) = omega arith
 atom_positive (a_paren x p) = omega arith
 atom_positive (a_typed x p t q) = omega arith
 atom_positive (a_begin x p) = omega arith

@@ -1,5 +1,5 @@
 -- Lists and what they hold: where one of them is refused, and that it is found.
-use Rattle.std.proofs.Common.{◌≡◌, ◌≢◌, ℕ, zero, suc, ◌+◌, ◌-◌, ◌<◌, ◌≤◌, max, Bool, true, false, List, [], ◌∷◌, ◌++◌, drop, Option, Some, None, refl, subst, ap, sym, ◌∙◌, arith}
+use Rattle.std.proofs.Common.{◌≡◌, ◌≢◌, ℕ, ◌+◌, ◌<◌, ◌≤◌, max, true, false, List, [], ◌∷◌, ◌++◌, drop, Option, Some, None, refl, subst, ap, sym, ◌∙◌, arith}
 use Rattle.oxml_base.specs.declared.span.Span.{Span}
 use Rattle.ml_lexer.specs.declared.token.Token.{Token}
 use Rattle.ml_cursor.specs.declared.front.Front.{Front}
@@ -18,10 +18,10 @@ use Rattle.ml_parser.specs.Looks.{goes_on, next, behind, is_else, is_colon, bind
 use Rattle.ml_parser.specs.Trees.{arm, bind, field, gathered, name_pattern, pun}
 use Rattle.ml_parse_patterns.specs.Patterns.{ReadsParams}
 use Rattle.ml_parser.specs.Grammar.{Kind, ItemOf, exprs, fields, arms, binds, part_of, listed, tuple, seq, more, ReadsPattern, to_next, past, HasType, ResultBy, TargetBy, Reads, ListedBy, ElseBy, GuardBy, Lists, ItemBy, a_list_of, alone, several, the_last, one_more, an_expression, a_set_field, a_pun, an_arm, a_bind, no_else, an_else, no_guard, a_guard, function_target, pattern_target, no_result, result}
-use Rattle.ml_parser.specs.Readings.{IsRead, AreDeep, IsListed, Until, until, Behind, behind_it, Results, results, Values, values, Actions, actions, Branches, branches}
+use Rattle.ml_parser.specs.Readings.{IsRead, AreDeep, Until, until, Results, results, Values, values, Actions, actions, Branches, branches}
 use Rattle.ml_parser.proofs.Deep.{Inside, inside, Along, along, deep_inside, deep_along, never, read_as, deep_at}
-use Rattle.ml_parser.proofs.Growth.{positive, listed_grows}
-use Rattle.ml_parser.proofs.Unique.{Same, same, same_list, same_item, same_else, same_guard, same_result, same_target, one_pattern, moved, no_clash}
+use Rattle.ml_parser.proofs.Growth.{listed_grows}
+use Rattle.ml_parser.proofs.Unique.{Same, same, same_item, same_guard, same_result, same_target, one_pattern, moved}
 
 true-false : {P : Type 0} → true ≡ false → P
 true-false q = cc
@@ -45,9 +45,11 @@ several_deep : {text : List ℕ} {q : ListKind} {us r : List Token} {a e : Expr}
 several_deep (several x) = omega arith
 
 pub listed_no_room : {text : List ℕ} {q : ListKind} {ts us : List Token} {a : Expr} {da left : ℕ} → Reads text (part_of q) ts a da us → goes_on q us ≡ true → left ≤ da → AreDeep (Reads text (listed q) ts) left
-listed_no_room {text} {q} {ts} {us} {a} {da} x g h = record { deep = λ e d r y.
-    let i = several_deep (subst (λ b. ListedBy text q b us a da e d r) g (listed_of x y)) in
-    omega arith }
+listed_no_room {text} {q} {ts} {us} {a} {da} x g h = record {
+  deep = λ e d r y.
+      let i = several_deep (subst (λ b. ListedBy text q b us a da e d r) g (listed_of x y)) in
+      omega arith;
+}
 
 several_inside : {text : List ℕ} {q : ListKind} {us r : List Token} {a e : Expr} {da d : ℕ} → ListedBy text q true us a da e d r → Inside (Lists text (exprs q) (next q us)) d
 several_inside (several x) = inside _ _ _ x (omega arith)
@@ -85,8 +87,8 @@ pub list_step : {text : List ℕ} {k : Kind} {start ts us vs : List Token} {done
 list_step {text} {k} {start} {ts} {us} {vs} {done} {x} {depth} {dx} i y m f = record {
   forth = λ xs d r z.
       subst (λ d. Lists text k start ((done ++ (x ∷ [])) ++ xs) d r) (let e : max depth (max dx d) ≡ max (max depth dx) d = omega arith in e)
-          (subst (λ xs. Lists text k start xs (max depth (max dx d)) r) (append_one done x xs)
-              (i.forth (x ∷ xs) (max dx d) r (one_more y m (subst (λ vs. Lists text k vs xs d r) f z))));
+      (subst (λ xs. Lists text k start xs (max depth (max dx d)) r) (append_one done x xs)
+      (i.forth (x ∷ xs) (max dx d) r (one_more y m (subst (λ vs. Lists text k vs xs d r) f z))));
   back = λ xs d r z.
       let a = i.back xs d r z in
       let b = tail_of y m a.reads in
@@ -278,6 +280,7 @@ result_not_equal {ts} {us} {vs} {t} p e x n o r y = inner y
   where
     first : ResultBy (is_colon (front ts)) ts (Some t) vs
     first = subst (λ b. ResultBy b ts (Some t) vs) (sym p) (result (subst (λ us. HasType us t vs) e x))
+
     inner : {o : Option TyExpr} {r : List Token} → Results ts o r → ⊥
     inner (results y q) = n (ap front (sym (same_result first y).rest) ∙ q)
 
@@ -302,7 +305,7 @@ value_read x i = record { reads = values x i.reads; small = i.small }
 pub function_target_read : {text : List ℕ} {ts us r : List Token} {s : Span} {p : Pat} {ps : List Param} {d : ℕ} → binds_function ts ≡ true → us ≡ drop 1 ts → s ≡ first_span ts → p ≡ name_pattern s → ReadsParams text us ps d r → TargetBy text (binds_function ts) ts p 1 ps d r
 function_target_read {text} {ts} {us} {r} {s} {p} {ps} {d} b e f g x =
     subst (λ b. TargetBy text b ts p 1 ps d r) (sym b)
-        (subst (λ p. TargetBy text true ts p 1 ps d r) (sym (g ∙ ap name_pattern f)) (function_target (subst (λ us. ReadsParams text us ps d r) e x)))
+    (subst (λ p. TargetBy text true ts p 1 ps d r) (sym (g ∙ ap name_pattern f)) (function_target (subst (λ us. ReadsParams text us ps d r) e x)))
 
 pub pattern_target_read : {text : List ℕ} {ts r : List Token} {p : Pat} {d : ℕ} → binds_function ts ≡ false → ReadsPattern text ts p d r → TargetBy text (binds_function ts) ts p d [] 0 r
 pattern_target_read {text} {ts} {r} {p} {d} b x = subst (λ b. TargetBy text b ts p d [] 0 r) (sym b) (pattern_target x)
@@ -321,15 +324,19 @@ pub function_target_no_room : {text : List ℕ} {ts : List Token} {left : ℕ} �
 function_target_no_room {text} {ts} b e = record { deep = λ p d ps c r x. let i = (of_function (subst (λ b. TargetBy text b ts p d ps c r) b x)).0 in omega arith }
 
 pub function_target_deep : {text : List ℕ} {ts us : List Token} {left : ℕ} → binds_function ts ≡ true → us ≡ drop 1 ts → AreDeep (ReadsParams text us) left → TargetsAreDeep text ts left
-function_target_deep {text} {ts} {us} b e h = record { deep = λ p d ps c r x.
-    let i = (of_function (subst (λ b. TargetBy text b ts p d ps c r) b x)).1 in
-    let k = h.deep ps c r (subst (λ us. ReadsParams text us ps c r) (sym e) i) in
-    omega arith }
+function_target_deep {text} {ts} {us} b e h = record {
+  deep = λ p d ps c r x.
+      let i = (of_function (subst (λ b. TargetBy text b ts p d ps c r) b x)).1 in
+      let k = h.deep ps c r (subst (λ us. ReadsParams text us ps c r) (sym e) i) in
+      omega arith;
+}
 
 pub pattern_target_deep : {text : List ℕ} {ts : List Token} {left : ℕ} → binds_function ts ≡ false → AreDeep (ReadsPattern text ts) left → TargetsAreDeep text ts left
-pattern_target_deep {text} {ts} b h = record { deep = λ p d ps c r x.
-    let k = h.deep p d r (of_pattern (subst (λ b. TargetBy text b ts p d ps c r) b x)) in
-    omega arith }
+pattern_target_deep {text} {ts} b h = record {
+  deep = λ p d ps c r x.
+      let k = h.deep p d r (of_pattern (subst (λ b. TargetBy text b ts p d ps c r) b x)) in
+      omega arith;
+}
 
 pub bind_deep : {text : List ℕ} {ts : List Token} {left : ℕ} → TargetsAreDeep text ts left → AreDeep (ItemBy text binds ts) left
 bind_deep {text} {ts} {left} h = record { deep = λ y d r x. inner x }

@@ -1,5 +1,5 @@
 -- Operators, fields and indices: where one of them is refused, and that it is found.
-use Rattle.std.proofs.Common.{◌≡◌, ◌≢◌, ℕ, zero, suc, ◌+◌, ◌-◌, ◌<◌, ◌≤◌, max, Bool, true, false, List, drop, Option, Some, None, refl, subst, ap, sym, ◌∙◌, arith}
+use Rattle.std.proofs.Common.{◌≡◌, ◌≢◌, ℕ, zero, suc, ◌+◌, ◌-◌, ◌<◌, ◌≤◌, max, true, false, List, drop, Some, None, refl, subst, ap, sym, ◌∙◌, arith}
 use Rattle.oxml_base.specs.declared.span.Span.{Span}
 use Rattle.ml_lexer.specs.declared.token.Token.{Token}
 use Rattle.ml_cursor.specs.declared.front.Front.TheVariants as F
@@ -13,7 +13,7 @@ use Rattle.ml_parser.specs.declared.looks.Joint.{Joint}
 use Rattle.ml_parser.specs.Looks.{suffix, groups_left, operator_at}
 use Rattle.ml_parser.specs.Trees.{node, start_of, joined}
 use Rattle.ml_parser.specs.Grammar.{atom, simple, seq, operators, Reads, SuffixBy, LevelBy, a_simple, a_level, no_suffix, a_field, an_index, no_operator, to_left, to_right}
-use Rattle.ml_parser.specs.Readings.{IsRead, AreDeep, Until, until, Infix, infix_of, Levels, OneSuffix, one_field, one_index}
+use Rattle.ml_parser.specs.Readings.{IsRead, AreDeep, Infix, infix_of, Levels, OneSuffix, one_field, one_index}
 use Rattle.ml_parser.proofs.Deep.{Inside, inside, Along, along, deep_inside, deep_along, never, read_as, deep_at}
 use Rattle.ml_parser.proofs.Growth.{suffix_grows, level_grows}
 use Rattle.ml_parser.proofs.Unique.{same, same_takes, moved}
@@ -46,12 +46,12 @@ level_none {text} {n} {k} {a} {da} {left} {ts} e f h =
 right : {text : List ℕ} {n k : ℕ} {o : Joint} {a e : Expr} {da d : ℕ} {ts r : List Token} → n ≡ suc k → groups_left n ≡ false → operator_at n ts ≡ Some o → LevelBy text k false (Some o) ts a da e d r → Levels text k a da ts e d r
 right {text} {n} {k} {o} {a} {e} {da} {d} {ts} {r} q g f x =
     subst (λ b. LevelBy text k b (operator_at (suc k) ts) ts a da e d r) (sym (ap groups_left (sym q) ∙ g))
-        (subst (λ o. LevelBy text k false o ts a da e d r) (sym (ap (λ n. operator_at n ts) (sym q) ∙ f)) x)
+    (subst (λ o. LevelBy text k false o ts a da e d r) (sym (ap (λ n. operator_at n ts) (sym q) ∙ f)) x)
 
 right_of : {text : List ℕ} {n k : ℕ} {o : Joint} {a e : Expr} {da d : ℕ} {ts r : List Token} → n ≡ suc k → groups_left n ≡ false → operator_at n ts ≡ Some o → Levels text k a da ts e d r → LevelBy text k false (Some o) ts a da e d r
 right_of {text} {n} {k} {o} {a} {e} {da} {d} {ts} {r} q g f x =
     subst (λ o. LevelBy text k false o ts a da e d r) (ap (λ n. operator_at n ts) (sym q) ∙ f)
-        (subst (λ b. LevelBy text k b (operator_at (suc k) ts) ts a da e d r) (ap groups_left (sym q) ∙ g) x)
+    (subst (λ b. LevelBy text k b (operator_at (suc k) ts) ts a da e d r) (ap groups_left (sym q) ∙ g) x)
 
 pub level_right_read : {text : List ℕ} {n k : ℕ} {o : Joint} {a e : Expr} {da d left : ℕ} {ts r : List Token} → n ≡ suc k → groups_left n ≡ false → operator_at n ts ≡ Some o → IsRead (Infix text n o a da ts) left e d r → IsRead (Levels text k a da ts) left e d r
 level_right_read {text} {n} {k} {o} {a} {e} {da} {d} {left} {ts} {r} q g f i =
@@ -78,12 +78,12 @@ to_left_init = record { forth = λ e d r x. x; back = λ e d r x. x }
 left_in : {text : List ℕ} {n k : ℕ} {o : Joint} {a e : Expr} {da d : ℕ} {ts r : List Token} → n ≡ suc k → groups_left n ≡ true → operator_at n ts ≡ Some o → LevelBy text k true (Some o) ts a da e d r → Levels text k a da ts e d r
 left_in {text} {n} {k} {o} {a} {e} {da} {d} {ts} {r} q g f x =
     subst (λ b. LevelBy text k b (operator_at (suc k) ts) ts a da e d r) (sym (ap groups_left (sym q) ∙ g))
-        (subst (λ o. LevelBy text k true o ts a da e d r) (sym (ap (λ n. operator_at n ts) (sym q) ∙ f)) x)
+    (subst (λ o. LevelBy text k true o ts a da e d r) (sym (ap (λ n. operator_at n ts) (sym q) ∙ f)) x)
 
 left_of : {text : List ℕ} {n k : ℕ} {o : Joint} {a e : Expr} {da d : ℕ} {ts r : List Token} → n ≡ suc k → groups_left n ≡ true → operator_at n ts ≡ Some o → Levels text k a da ts e d r → LevelBy text k true (Some o) ts a da e d r
 left_of {text} {n} {k} {o} {a} {e} {da} {d} {ts} {r} q g f x =
     subst (λ o. LevelBy text k true o ts a da e d r) (ap (λ n. operator_at n ts) (sym q) ∙ f)
-        (subst (λ b. LevelBy text k b (operator_at (suc k) ts) ts a da e d r) (ap groups_left (sym q) ∙ g) x)
+    (subst (λ b. LevelBy text k b (operator_at (suc k) ts) ts a da e d r) (ap groups_left (sym q) ∙ g) x)
 
 -- one step: from `a` at `ts` to what its operator makes of it
 step_forth : {text : List ℕ} {k : ℕ} {o : Joint} {a c e : Expr} {da dc d : ℕ} {ts us r : List Token} → groups_left (suc k) ≡ true → Infix text k o a da ts c dc us → Levels text k c dc us e d r → LevelBy text k true (Some o) ts a da e d r
@@ -93,7 +93,7 @@ step_forth {text} {k} {o} {a} {c} {e} {da} {dc} {d} {ts} {us} {r} g (infix_of {r
 step_back : {text : List ℕ} {k : ℕ} {o : Joint} {a c e : Expr} {da dc d : ℕ} {ts us r : List Token} → groups_left (suc k) ≡ true → Infix text k o a da ts c dc us → LevelBy text k true (Some o) ts a da e d r → Levels text k c dc us e d r
 step_back {text} {k} {o} {a} {e = e} {da} {d = d} {r = r} g (infix_of {rest = vs} {b = b} {d = db} x) (to_left {vs = vs'} {b = b'} {db = db'} z y) =
     subst (λ w. LevelBy text k w (operator_at (suc k) vs) vs (joined o a b) (max da db + 1) e d r) (sym g)
-        (moved (λ b db vs. LevelBy text k true (operator_at (suc k) vs) vs (joined o a b) (max da db + 1) e d r) (same x z) y)
+    (moved (λ b db vs. LevelBy text k true (operator_at (suc k) vs) vs (joined o a b) (max da db + 1) e d r) (same x z) y)
 
 pub to_left_step : {text : List ℕ} {n k : ℕ} {o : Joint} {first a c : Expr} {depth da dc : ℕ} {start ts us : List Token} → n ≡ suc k → groups_left n ≡ true → operator_at n ts ≡ Some o → ToLeftSoFar text k first depth start a da ts → Infix text k o a da ts c dc us → ToLeftSoFar text k first depth start c dc us
 to_left_step {n = n} {k = k} q g f i x =
@@ -179,6 +179,7 @@ index_not_closed {text} {a} {i} {da} {di} {left} {ts} {us} {vs} {ws} e f x n = n
   where
     first : Reads text seq (drop 1 (drop 1 ts)) i di ws
     first = subst (λ vs. Reads text seq vs i di ws) (f ∙ ap (drop 1) e) x
+
     inner : {e : Expr} {d : ℕ} {r : List Token} → OneSuffix text a da S.Index ts e d r → ⊥
     inner (one_index y p) = n (ap front (sym (same first y).rest) ∙ p.stands)
 

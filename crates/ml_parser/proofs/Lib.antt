@@ -1,3 +1,4 @@
+mod Accepts
 mod Atoms
 mod Deep
 mod Growth

@@ -1,8 +1,7 @@
 -- Open forms and prefixes: where one of them is refused, and that it is found.
-use Rattle.std.proofs.Common.{◌≡◌, ◌≢◌, ℕ, ◌+◌, ◌-◌, ◌<◌, ◌≤◌, max, Bool, List, drop, Option, Some, None, refl, subst, ap, sym, ◌∙◌, arith}
+use Rattle.std.proofs.Common.{◌≡◌, ◌≢◌, ℕ, ◌+◌, ◌<◌, ◌≤◌, max, Bool, List, drop, Option, subst, ap, sym, ◌∙◌, arith}
 use Rattle.oxml_base.specs.declared.span.Span.{Span}
 use Rattle.ml_lexer.specs.declared.token.Token.{Token}
-use Rattle.ml_cursor.specs.declared.front.Front.{Front}
 use Rattle.ml_cursor.specs.declared.front.Front.TheVariants as F
 use Rattle.ml_cursor.specs.Fronts.{front}
 use Rattle.ml_cursor.specs.Places.{first_span, Takes}
@@ -15,14 +14,14 @@ use Rattle.ml_tree.specs.declared.expr.ExprKind.TheVariants as E
 use Rattle.ml_parser.specs.declared.looks.Lead.{Lead}
 use Rattle.ml_parser.specs.declared.looks.Lead.TheVariants as O
 use Rattle.ml_parser.specs.declared.looks.ListKind.TheVariants as Q
-use Rattle.ml_parser.specs.Looks.{second, lead, is_rec, is_else, behind_rec, behind_bar}
+use Rattle.ml_parser.specs.Looks.{second, lead, is_rec, behind_rec, behind_bar}
 use Rattle.ml_parser.specs.Trees.{node, end_of, end_behind, end_of_arm, end_of_branches}
 use Rattle.ml_parse_patterns.specs.Patterns.{ReadsParams}
-use Rattle.ml_parser.specs.Grammar.{seq, tuple, operators, listed, arms, binds, Borrows, Reads, OperandBy, ConBy, ElseBy, Lists, an_operand, an_apply, a_constructor, a_minus, a_word, an_overwrite, a_let, a_borrow, a_match, a_function, a_fun, an_if, an_exclave}
+use Rattle.ml_parser.specs.Grammar.{seq, operators, listed, arms, binds, Borrows, Reads, OperandBy, ConBy, Lists, an_operand, an_apply, a_constructor, a_minus, a_word, an_overwrite, a_let, a_borrow, a_match, a_function, a_fun, an_if, an_exclave}
 use Rattle.ml_parser.specs.Readings.{IsRead, AreDeep, Until, until, Behind, behind_it, Branches, branches}
-use Rattle.ml_parser.proofs.Deep.{Inside, inside, Along, along, deep_inside, deep_along, never, read_as, read_at, deep_at}
+use Rattle.ml_parser.proofs.Deep.{Inside, inside, Along, along, deep_inside, deep_along, never, read_as, deep_at}
 use Rattle.ml_parser.proofs.Growth.{operand_positive}
-use Rattle.ml_parser.proofs.Unique.{same, same_list, same_con, same_takes, same_borrows, one_params}
+use Rattle.ml_parser.proofs.Unique.{same, same_list, same_takes, same_borrows, one_params}
 
 -- where nothing is left
 
@@ -127,6 +126,7 @@ let_deep_behind {text} {ts} {us} {vs} {ws} {bs} {c} e f b x h = deep_inside b (�
   where
     first : Lists text binds (behind_rec (drop 1 ts)) bs c ws
     first = subst (λ us. Lists text binds us bs c ws) (f ∙ ap behind_rec e) x
+
     inner : {y : Expr} {d : ℕ} {r : List Token} → OperandBy text O.Let ts y d r → Inside (Behind text F.In ws) d
     inner (a_let {rest = r} {b = b} {d = d} x p z) =
         inside _ _ _ (subst (λ us. Behind text F.In us b d r) (same_list first x).rest (behind_it p z)) (omega arith)
@@ -154,6 +154,7 @@ borrow_deep_behind {text} {ts} {us} {vs} {y} {x} e b n h = deep_inside b (λ y d
   where
     first : Borrows (drop 1 ts) y x vs
     first = subst (λ us. Borrows us y x vs) e n
+
     inner : {y : Expr} {d : ℕ} {r : List Token} → OperandBy text O.Borrow ts y d r → Inside (Behind text F.In vs) d
     inner (a_borrow {rest = r} {b = b} {d = d} m p z) =
         inside _ _ _ (subst (λ us. Behind text F.In us b d r) (same_borrows first m).rest (behind_it p z)) (omega arith)
@@ -203,6 +204,7 @@ fun_deep_behind {text} {ts} {us} {vs} {ps} {c} e b x h = deep_inside b (λ y d r
   where
     first : ReadsParams text (drop 1 ts) ps c vs
     first = subst (λ us. ReadsParams text us ps c vs) e x
+
     inner : {y : Expr} {d : ℕ} {r : List Token} → OperandBy text O.Fun ts y d r → Inside (Behind text F.Arrow vs) d
     inner (a_fun {rest = r} {b = b} {d = d} x p z) =
         inside _ _ _ (subst (λ us. Behind text F.Arrow us b d r) (one_params first x).rest (behind_it p z)) (omega arith)
@@ -253,6 +255,7 @@ overwrite_no_with {text} {ts} {us} {vs} {name} e t h = never (λ y d r q. inner 
   where
     first : Takes F.Lower (drop 1 ts) vs name
     first = subst (λ us. Takes F.Lower us vs name) e t
+
     inner : {y : Expr} {d : ℕ} {r : List Token} → OperandBy text O.Overwrite ts y d r → ⊥
     inner (an_overwrite p q x) = h (ap front (sym (same_takes first p).rest) ∙ q.stands)
 
@@ -261,6 +264,7 @@ overwrite_deep {text} {ts} {us} {vs} {ws} {name} {s} e b t u h = deep_inside b (
   where
     first : Takes F.Lower (drop 1 ts) vs name
     first = subst (λ us. Takes F.Lower us vs name) e t
+
     inner : {y : Expr} {d : ℕ} {r : List Token} → OperandBy text O.Overwrite ts y d r → Inside (ConBy text (front ws) ws) d
     inner (an_overwrite {vs = ws'} {rest = r} {e = e} {d = d} {s = s'} p q x) =
         let i = same_takes first p in

@@ -1,6 +1,5 @@
 -- Items and programs: no list of tokens has two, where one is refused, and that it is found.
-use Rattle.std.proofs.Common.{◌≡◌, ◌≢◌, ℕ, zero, suc, ◌+◌, ◌<◌, ◌≤◌, max, Bool, List, [], ◌∷◌, ◌++◌, drop, length, refl, subst, ap, sym, ◌∙◌, arith}
-use Rattle.oxml_base.specs.declared.span.Span.{Span}
+use Rattle.std.proofs.Common.{◌≡◌, ◌≢◌, ℕ, ◌≤◌, max, Bool, List, [], ◌∷◌, ◌++◌, drop, refl, subst, ap, sym, ◌∙◌, arith}
 use Rattle.ml_lexer.specs.declared.token.Token.{Token}
 use Rattle.ml_cursor.specs.Fronts.{front}
 use Rattle.ml_cursor.specs.declared.front.Front.TheVariants as F
@@ -13,7 +12,7 @@ use Rattle.ml_tree.specs.declared.program.ItemKind.TheVariants as K
 use Rattle.ml_numbers.specs.Numbered.{numbered}
 use Rattle.ml_parser.specs.declared.looks.ItemLead.{ItemLead}
 use Rattle.ml_parser.specs.declared.looks.ItemLead.TheVariants as I
-use Rattle.ml_parser.specs.Looks.{second, item_by, item_lead, is_rec, behind_rec}
+use Rattle.ml_parser.specs.Looks.{item_by, item_lead, is_rec, behind_rec}
 use Rattle.ml_parser.specs.Trees.{end_behind, end_of_bind}
 use Rattle.ml_parse_types.specs.Types.{Got, got}
 use Rattle.ml_parse_types.specs.Decls.{ReadsDecls}
@@ -154,7 +153,7 @@ pub items_step : {text : List ℕ} {start ts us : List Token} {done : List Item}
 items_step {text} {start} {ts} {us} {done} {i} {depth} {di} s x = record {
   forth = λ is d y.
       subst (λ d. AreItems text start ((done ++ (i ∷ [])) ++ is) d) (let e : max depth (max di d) ≡ max (max depth di) d = omega arith in e)
-          (subst (λ is. AreItems text start is (max depth (max di d))) (append_one done i is) (s.forth (i ∷ is) (max di d) (put_first x.reads y)));
+      (subst (λ is. AreItems text start is (max depth (max di d))) (append_one done i is) (s.forth (i ∷ is) (max di d) (put_first x.reads y)));
   back = λ is d y.
       let a = s.back is d y in
       let b = others_of x.reads a.reads in

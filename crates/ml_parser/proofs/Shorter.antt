@@ -1,10 +1,9 @@
 -- What follows a part is shorter than what it was read from.
-use Rattle.std.proofs.Common.{◌≡◌, ◌≢◌, ℕ, zero, suc, ◌+◌, ◌-◌, ◌<◌, ◌≤◌, max, Bool, true, false, List, [], ◌∷◌, drop, length, Option, Some, None, refl, subst, ap, sym, ◌∙◌, arith, cond}
+use Rattle.std.proofs.Common.{◌≡◌, ℕ, ◌<◌, ◌≤◌, Bool, true, false, List, [], ◌∷◌, drop, length, Option, refl, subst, ap, sym, ◌∙◌, arith, cond}
 use Rattle.oxml_base.specs.declared.span.Span.{Span}
 use Rattle.ml_lexer.specs.declared.token.Token.{Token}
 use Rattle.ml_cursor.specs.declared.front.Front.{Front}
 use Rattle.ml_cursor.specs.declared.front.Front.TheVariants as F
-use Rattle.ml_cursor.specs.Fronts.{front}
 use Rattle.ml_cursor.specs.Places.{Takes}
 use Rattle.ml_tree.specs.declared.types.TyExpr.{TyExpr}
 use Rattle.ml_tree.specs.declared.pattern.Pat.{Pat}
@@ -17,15 +16,14 @@ use Rattle.ml_parser.specs.declared.looks.Leaf.TheVariants as L
 use Rattle.ml_parser.specs.declared.looks.AtomLead.{AtomLead}
 use Rattle.ml_parser.specs.declared.looks.AtomLead.TheVariants as A
 use Rattle.ml_parser.specs.declared.looks.Suffix.{Suffix}
-use Rattle.ml_parser.specs.declared.looks.Suffix.TheVariants as S
 use Rattle.ml_parser.specs.declared.looks.Lead.{Lead}
 use Rattle.ml_parser.specs.declared.looks.Lead.TheVariants as O
 use Rattle.ml_parser.specs.declared.looks.Joint.{Joint}
 use Rattle.ml_parser.specs.declared.looks.ListKind.{ListKind}
 use Rattle.ml_parser.specs.declared.looks.ListKind.TheVariants as Q
-use Rattle.ml_parser.specs.Looks.{atom_lead, lead, is_semi, is_bar, is_rec, joins_operands, second, next, behind, behind_statements, behind_semi, behind_bar, behind_rec}
+use Rattle.ml_parser.specs.Looks.{atom_lead, lead, next, behind, behind_statements, behind_semi, behind_bar, behind_rec}
 use Rattle.ml_parser.specs.Trees.{width}
-use Rattle.ml_parser.specs.Grammar.{Part, Kind, ItemOf, exprs, fields, arms, binds, to_next, past, HasType, ResultBy, TargetBy, Borrows, borrows, no_result, result, function_target, pattern_target, Reads, AtomBy, SuffixBy, ListedBy, LevelBy, OperandBy, ConBy, ElseBy, GuardBy, Lists, ItemBy, an_atom, a_simple, an_operand, a_level, a_list_of, a_leaf, a_text, a_paren, a_typed, a_begin, a_list, a_record, no_suffix, a_field, an_index, alone, several, no_operator, to_left, to_right, an_apply, a_constructor, a_minus, a_word, an_overwrite, a_let, a_borrow, a_match, a_function, a_fun, an_if, an_exclave, a_block, a_cell, no_else, an_else, no_guard, a_guard, the_last, one_more, an_expression, a_set_field, a_pun, an_arm, a_bind}
+use Rattle.ml_parser.specs.Grammar.{Part, Kind, ItemOf, exprs, fields, arms, binds, to_next, past, ResultBy, TargetBy, Borrows, borrows, no_result, result, function_target, pattern_target, Reads, AtomBy, SuffixBy, ListedBy, LevelBy, OperandBy, ConBy, ElseBy, GuardBy, Lists, ItemBy, an_atom, a_simple, an_operand, a_level, a_list_of, a_leaf, a_text, a_paren, a_typed, a_begin, a_list, a_record, no_suffix, a_field, an_index, alone, several, no_operator, to_left, to_right, an_apply, a_constructor, a_minus, a_word, an_overwrite, a_let, a_borrow, a_match, a_function, a_fun, an_if, an_exclave, a_block, a_cell, no_else, an_else, no_guard, a_guard, the_last, one_more, an_expression, a_set_field, a_pun, an_arm, a_bind}
 use Rattle.ml_parser.specs.Readings.{Infix, infix_of, OneSuffix, one_field, one_index}
 
 takes_rest : {w : Front} {ts r : List Token} {s : Span} → Takes w ts r s → length r ≤ length ts
@@ -143,7 +141,7 @@ mutual
 
   atom_rest : {text : List ℕ} {l : AtomLead} {ts r : List Token} {e : Expr} {d : ℕ} → AtomBy text l ts e d r → length r ≤ length (drop 1 ts)
   atom_rest (a_leaf {l = l} {ts = ts}) = leaf_rest l ts
-  atom_rest (a_text x) = omega arith
+  atom_rest (a_text p x) = omega arith
   atom_rest (a_paren x p) = let i = shorter x in let j = takes_rest p in omega arith
   atom_rest (a_typed x p t q) = let i = shorter x in let j = takes_rest p in let k = type_rest t in let l = takes_rest q in omega arith
   atom_rest (a_begin x p) = let i = shorter x in let j = takes_rest p in omega arith

@@ -1,5 +1,5 @@
 -- No list of tokens has two trees.
-use Rattle.std.proofs.Common.{◌≡◌, ℕ, suc, ◌+◌, max, Bool, true, false, List, [], ◌∷◌, drop, Option, Some, None, refl, subst, ap, sym, ◌∙◌}
+use Rattle.std.proofs.Common.{◌≡◌, ℕ, suc, ◌+◌, max, Bool, true, List, [], ◌∷◌, drop, Option, Some, refl, subst, ap, sym, ◌∙◌}
 use Rattle.ml_lexer.specs.declared.token.Token.{Token}
 use Rattle.ml_lexer.specs.Tokens.{IsLiteral}
 use Rattle.ml_cursor.specs.declared.front.Front.{Front}
@@ -13,8 +13,7 @@ use Rattle.ml_parser.specs.declared.looks.Suffix.{Suffix}
 use Rattle.ml_parser.specs.declared.looks.Lead.{Lead}
 use Rattle.ml_parser.specs.declared.looks.Joint.{Joint}
 use Rattle.ml_parser.specs.declared.looks.ListKind.{ListKind}
-use Rattle.ml_parser.specs.declared.looks.ListKind.TheVariants as Q
-use Rattle.ml_parser.specs.Looks.{suffix, second, operator_at, groups_left, goes_on, is_else, is_colon, is_rec, behind_bar, binds_function}
+use Rattle.ml_parser.specs.Looks.{suffix, second, operator_at, groups_left, goes_on, is_else, is_colon, is_rec, behind_bar}
 use Rattle.ml_parser.specs.Trees.{node, start_of, end_of, end_behind, end_of_arm, end_of_branches, arm, bind, field, gathered, joined}
 use Rattle.ml_tree.specs.declared.pattern.ConName.TheVariants.{Named}
 use Rattle.ml_tree.specs.declared.expr.ExprKind.TheVariants as E
@@ -134,7 +133,7 @@ mutual
 
   pub same_atom : {text : List ℕ} {l : AtomLead} {ts r s : List Token} {e f : Expr} {d c : ℕ} → AtomBy text l ts e d r → AtomBy text l ts f c s → Same e f d c r s
   same_atom a_leaf a_leaf = it _ _ _
-  same_atom {text = text} (a_text {t = t} x) (a_text y) = record { tree = ap (λ bs. node t.span.start t.span.end (E.Text (record { bytes = bs }))) (same_literal x y); depth = refl; rest = refl }
+  same_atom {text = text} (a_text {t = t} p x) (a_text q y) = record { tree = ap (λ bs. node t.span.start t.span.end (E.Text (record { bytes = bs }))) (same_literal x y); depth = refl; rest = refl }
   same_atom {ts = ts} (a_paren x p) (a_paren {rest = r'} {s = s'} y q) =
       let i = same x y in
       made3 (λ e us s vs. node (first_span ts).start s.end (E.Paren e)) (λ d. d + 1) (λ r. r) i (same_takes p (subst (λ us. Takes CloseParen us r' s') i.rest q))
@@ -177,7 +176,7 @@ mutual
   same_level no_operator no_operator = it _ _ _
   same_level {text = text} (to_left {k = k} {o = o} {a = a} {da = da} x g) (to_left {rest = s} {e = f} {d = c} y h) =
       same_level g (moved (λ b db vs. LevelBy text k true (operator_at (suc k) vs) vs (joined o a b) (max da db + 1) f c s) (same x y) h)
-  same_level {text = text} {a = a} {da = da}  (to_right {o = o} x) (to_right y) = made (λ b us. joined o a b) (λ d. max da d + 1) (λ r. r) (same x y)
+  same_level {text = text} {a = a} {da = da} (to_right {o = o} x) (to_right y) = made (λ b us. joined o a b) (λ d. max da d + 1) (λ r. r) (same x y)
 
   pub same_operand : {text : List ℕ} {l : Lead} {ts r s : List Token} {e f : Expr} {d c : ℕ} → OperandBy text l ts e d r → OperandBy text l ts f c s → Same e f d c r s
   same_operand {text = text} (an_apply x) (an_apply y) = same x y

@@ -3,8 +3,9 @@
 -- `Reads text part ts e d rest`: the longest `part` at the front of the tokens `ts` is `e`, of depth `d`,
 -- and `rest` follows. Each rule is one form of the language page; which rule it is, is told by what stands
 -- at the front, so that no list of tokens has two trees.
-use Rattle.std.specs.Prelude.{◌≡◌, ℕ, zero, suc, ◌+◌, ◌≤◌, max, Bool, true, false, List, [], ◌∷◌, drop, Option, Some, None}
+use Rattle.std.specs.Prelude.{◌≡◌, ℕ, zero, suc, ◌+◌, max, Bool, true, false, List, [], ◌∷◌, drop, Option, Some, None}
 use Rattle.ml_lexer.specs.declared.token.Token.{Token}
+use Rattle.ml_lexer.specs.declared.token.TokenKind.TheVariants.{Text}
 use Rattle.ml_lexer.specs.Tokens.{IsLiteral}
 use Rattle.ml_cursor.specs.declared.front.Front.{Front}
 use Rattle.ml_cursor.specs.declared.front.Front.TheVariants as F
@@ -141,7 +142,7 @@ mutual
   pub data AtomBy (text : List ℕ) : AtomLead → List Token → Expr → ℕ → List Token → Type 0 where
     a_leaf : {l : Leaf} {ts : List Token} → AtomBy text (A.Leaf l) ts (leaf l ts) 1 (drop (width l) ts)
     a_text : {t : Token} {rest : List Token} {bytes : List ℕ} →
-        IsLiteral text t bytes →
+        t.kind ≡ Text → IsLiteral text t bytes →
         AtomBy text A.Text (t ∷ rest) (node t.span.start t.span.end (E.Text (record { bytes = bytes }))) 1 rest
     a_paren : {ts us rest : List Token} {e : Expr} {d : ℕ} {s : Span} →
         Reads text seq (drop 1 ts) e d us → Takes F.CloseParen us rest s →
@@ -209,7 +210,7 @@ mutual
         Lists text binds (behind_rec (drop 1 ts)) bs dbs us → front us ≡ F.In →
         Reads text seq (drop 1 us) b d rest →
         OperandBy text O.Let ts
-            (node (first_span ts).start (end_of b) (E.Let (is_rec (second ts)) bs b)) (max dbs d + 1) rest
+        (node (first_span ts).start (end_of b) (E.Let (is_rec (second ts)) bs b)) (max dbs d + 1) rest
     -- `let borrow_ y = x in e`
     a_borrow : {ts us rest : List Token} {y x : Span} {b : Expr} {d : ℕ} →
         Borrows (drop 1 ts) y x us → front us ≡ F.In → Reads text seq (drop 1 us) b d rest →
@@ -218,11 +219,11 @@ mutual
         Reads text seq (drop 1 ts) a da us → front us ≡ F.With →
         Lists text arms (behind_bar (drop 1 us)) cases d rest →
         OperandBy text O.Match ts
-            (node (first_span ts).start (end_behind end_of_arm 0 cases) (E.Match a cases)) (max da d + 1) rest
+        (node (first_span ts).start (end_behind end_of_arm 0 cases) (E.Match a cases)) (max da d + 1) rest
     a_function : {ts rest : List Token} {cases : List Arm} {d : ℕ} →
         Lists text arms (behind_bar (drop 1 ts)) cases d rest →
         OperandBy text O.Function ts
-            (node (first_span ts).start (end_behind end_of_arm 0 cases) (E.Function cases)) (d + 1) rest
+        (node (first_span ts).start (end_behind end_of_arm 0 cases) (E.Function cases)) (d + 1) rest
     a_fun : {ts us rest : List Token} {ps : List Param} {b : Expr} {dp d : ℕ} →
         ReadsParams text (drop 1 ts) ps dp us → front us ≡ F.Arrow →
         Reads text seq (drop 1 us) b d rest →
@@ -231,7 +232,7 @@ mutual
         Reads text seq (drop 1 ts) c dc us → front us ≡ F.Then → Reads text tuple (drop 1 us) a da vs →
         ElseBy text (is_else (front vs)) vs o d rest →
         OperandBy text O.If ts
-            (node (first_span ts).start (end_of_branches a o) (E.If c a o)) (max dc (max da d) + 1) rest
+        (node (first_span ts).start (end_of_branches a o) (E.If c a o)) (max dc (max da d) + 1) rest
     an_exclave : {ts rest : List Token} {b : Expr} {d : ℕ} →
         Reads text seq (drop 1 ts) b d rest →
         OperandBy text O.Exclave ts (node (first_span ts).start (end_of b) (E.Exclave b)) (d + 1) rest
@@ -245,7 +246,7 @@ mutual
         Reads text (operators 3) (drop 1 ts) a da us → front us ≡ F.ColonColon →
         Reads text (operators 4) (drop 1 us) b db vs → Takes F.CloseParen vs rest s →
         ConBy text F.OpenParen ts
-            (node (first_span ts).start s.end (E.Paren (joined Pair a b))) (max da db + 1 + 1) rest
+        (node (first_span ts).start s.end (E.Paren (joined Pair a b))) (max da db + 1 + 1) rest
 
   -- `[else e]`
   pub data ElseBy (text : List ℕ) : Bool → List Token → Option Expr → ℕ → List Token → Type 0 where

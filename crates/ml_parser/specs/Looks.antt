@@ -1,12 +1,10 @@
 -- What begins at the front of a list of tokens, and what goes on there: each decision of the grammar.
-use Rattle.std.specs.Prelude.{ℕ, zero, suc, Bool, true, false, ◌==◌, ◌||◌, ◌&&◌, not, if◌then◌else◌, List, drop, Option, Some, None, is_some}
-use Rattle.std.specs.Option.{option_and_then}
+use Rattle.std.specs.Prelude.{ℕ, Bool, true, false, ◌==◌, ◌||◌, ◌&&◌, not, if◌then◌else◌, List, drop, Option, Some, None, is_some}
 use Rattle.ml_lexer.specs.declared.token.Token.{Token}
 use Rattle.ml_cursor.specs.declared.front.Front.{Front}
 use Rattle.ml_cursor.specs.declared.front.Front.TheVariants as F
 use Rattle.ml_cursor.specs.Fronts.{front}
 use Rattle.ml_cursor.specs.Lets.{begins_closed_let}
-use Rattle.ml_tree.specs.declared.words.Words.{Words}
 use Rattle.ml_tree.specs.declared.words.Loc.{Loc}
 use Rattle.ml_tree.specs.declared.words.Loc.TheVariants.{Global, Local}
 use Rattle.ml_tree.specs.declared.words.Uni.{Uni}
@@ -15,7 +13,6 @@ use Rattle.ml_tree.specs.declared.words.Aff.{Aff}
 use Rattle.ml_tree.specs.declared.words.Aff.TheVariants.{Many, Once}
 use Rattle.ml_tree.specs.declared.expr.BinOp.{BinOp}
 use Rattle.ml_tree.specs.declared.expr.BinOp.TheVariants as B
-use Rattle.ml_parser.specs.declared.looks.Leaf.{Leaf}
 use Rattle.ml_parser.specs.declared.looks.Leaf.TheVariants as L
 use Rattle.ml_parser.specs.declared.looks.AtomLead.{AtomLead}
 use Rattle.ml_parser.specs.declared.looks.AtomLead.TheVariants as A
@@ -28,7 +25,6 @@ use Rattle.ml_parser.specs.declared.looks.Joint.TheVariants as J
 use Rattle.ml_parser.specs.declared.looks.ItemLead.{ItemLead}
 use Rattle.ml_parser.specs.declared.looks.ItemLead.TheVariants as I
 use Rattle.ml_parser.specs.declared.looks.ListKind.{ListKind}
-use Rattle.ml_parser.specs.declared.operators.Operator.{Operator}
 use Rattle.ml_parser.specs.declared.looks.ListKind.TheVariants as Q
 
 -- the second and the third token
@@ -139,6 +135,10 @@ unfoldable pub begins_expression : List Token → Bool
 begins_expression ts = begins_open_by (front ts) || begins_closed_let ts
 
 -- operators, the levels from the tightest on
+
+pub record Operator : Type 0 where
+  pub level : ℕ
+  pub joint : Joint
 
 abbrev pub binary : ℕ → BinOp → Option Operator
 binary n op = Some (record { level = n; joint = J.Binary op })

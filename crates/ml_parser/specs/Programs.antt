@@ -1,15 +1,12 @@
 -- Items and programs.
-use Rattle.std.specs.Prelude.{◌≡◌, ℕ, ◌≤◌, max, Bool, List, [], ◌∷◌, drop}
-use Rattle.oxml_base.specs.declared.span.Span.{Span}
+use Rattle.std.specs.Prelude.{◌≡◌, ℕ, ◌≤◌, max, List, [], ◌∷◌, drop}
 use Rattle.ml_lexer.specs.declared.token.Token.{Token}
-use Rattle.ml_cursor.specs.Fronts.{front}
 use Rattle.ml_cursor.specs.Places.{span, first_span, extent}
 use Rattle.ml_tree.specs.declared.expr.Bind.{Bind}
 use Rattle.ml_tree.specs.declared.types.Decl.{Decl}
 use Rattle.ml_numbers.specs.Numbered.{numbered}
 use Rattle.ml_tree.specs.declared.program.Program.{Program}
 use Rattle.ml_tree.specs.declared.program.Item.{Item}
-use Rattle.ml_tree.specs.declared.program.ItemKind.{ItemKind}
 use Rattle.ml_tree.specs.declared.program.ItemKind.TheVariants as K
 use Rattle.ml_parser.specs.declared.looks.ItemLead.{ItemLead}
 use Rattle.ml_parser.specs.declared.looks.ItemLead.TheVariants as I

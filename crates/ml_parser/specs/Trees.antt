@@ -11,7 +11,7 @@ use Rattle.ml_tree.specs.declared.types.TyExpr.{TyExpr}
 use Rattle.ml_tree.specs.declared.expr.Expr.{Expr, roll-Expr, out-Expr}
 use Rattle.ml_tree.specs.declared.expr.Arm.{Arm, roll-Arm, out-Arm}
 use Rattle.ml_tree.specs.declared.expr.Bind.{Bind, roll-Bind, out-Bind}
-use Rattle.ml_tree.specs.declared.expr.FieldExpr.{FieldExpr, roll-FieldExpr, out-FieldExpr}
+use Rattle.ml_tree.specs.declared.expr.FieldExpr.{FieldExpr, roll-FieldExpr}
 use Rattle.ml_tree.specs.declared.expr.ExprKind.{ExprKind}
 use Rattle.ml_tree.specs.declared.expr.ExprKind.TheVariants as E
 use Rattle.ml_cursor.specs.Places.{span, first_span, int_value, char_value}
