@@ -12,6 +12,58 @@ use oxml_base::{Items, Span};
 use sqlite_items::Boxed;
 use std::alloc::Global;
 
+/// Where the branches of an `if` end.
+fn end_of_branches(then: &Expr, other: &Option<Expr>) -> u32
+    ensures { result ≡ end_of_branches then.now other.now }
+{
+    match other {
+        Some(other) => other.span.end,
+        None => then.span.end,
+    }
+}
+
+/// What may be left out, in a box.
+fn boxed_option(alloc: Global, found: Option<Expr>) -> Result<Option<Boxed<Expr>>, ParseErr>
+    ensures ok { IfOk result (λ boxed. boxed ≡ found) }
+    ensures err { IfErr result (λ e. e ≡ ParseErr.NoMemory) }
+{
+    match found {
+        Some(found) => {
+            let boxed = Boxed::new(alloc, found)?;
+            Ok(Some(boxed))
+        }
+        None => Ok(None),
+    }
+}
+
+/// The branches of an `if`, in boxes.
+fn boxed_branches(
+    alloc: Global,
+    then: Expr,
+    other: Option<Expr>,
+) -> Result<(Boxed<Expr>, Option<Boxed<Expr>>), ParseErr>
+    ensures ok { IfOk result (λ boxed. boxed ≡ (then, other)) }
+    ensures err { IfErr result (λ e. e ≡ ParseErr.NoMemory) }
+{
+    let then = Boxed::new(alloc, then)?;
+    let other = boxed_option(alloc, other)?;
+    Ok((then, other))
+}
+
+/// What an `if` is, of its condition and its branches.
+fn if_kind(
+    alloc: Global,
+    condition: Expr,
+    then: Boxed<Expr>,
+    other: Option<Boxed<Expr>>,
+) -> Result<ExprKind, ParseErr>
+    ensures ok { IfOk result (λ kind. kind ≡ ExprKind.If condition then other) }
+    ensures err { IfErr result (λ e. e ≡ ParseErr.NoMemory) }
+{
+    let condition = Boxed::new(alloc, condition)?;
+    Ok(ExprKind::If(condition, then, other))
+}
+
 /// `if e then e [else e]`, the branches as a pair.
 pub fn choice(
     alloc: Global,
@@ -27,21 +79,11 @@ pub fn choice(
 {
     let depth = deeper(condition.depth, branches.depth);
     let (then, other) = branches.tree;
-    match other {
-        None => {
-            let span = joined(head.span, then.span);
-            let condition = Boxed::new(alloc, condition.tree)?;
-            let then = Boxed::new(alloc, then)?;
-            Ok(node(span, ExprKind::If(condition, then, None), depth))
-        }
-        Some(other) => {
-            let span = joined(head.span, other.span);
-            let condition = Boxed::new(alloc, condition.tree)?;
-            let then = Boxed::new(alloc, then)?;
-            let other = Boxed::new(alloc, other)?;
-            Ok(node(span, ExprKind::If(condition, then, Some(other)), depth))
-        }
-    }
+    let start = head.span.start;
+    let end = end_of_branches(&then, &other);
+    let (then, other) = boxed_branches(alloc, then, other)?;
+    let kind = if_kind(alloc, condition.tree, then, other)?;
+    Ok(node(Span { start, end }, kind, depth))
 }
 
 /// `let [rec] binds in e`
