@@ -102,7 +102,7 @@ fn read_args(alloc: Global, tokens: &[Token], at: &mut usize) -> Result<Items<Ar
     ensures err { IfErr result (Says tokens.now (IsNone (ReadsItems ReadsArg arg_behind) (drop at.old tokens.now))) }
 {
     let mut list = Items::new(alloc);
-    'args: loop {
+    'more: loop {
         list.push(read_arg(alloc, tokens, at)?)?;
         match behind_factor(tokens, *at) {
             After::Goes => pass(tokens, at),
