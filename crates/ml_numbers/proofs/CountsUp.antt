@@ -1,15 +1,13 @@
 -- A numbered program has the numbers 0, 1, 2 .. in the order of the source.
-use Rattle.std.proofs.Common.{◌≡◌, ℕ, ◌+◌, List, map, refl, arith, subst, sym}
-use Rattle.ml_tree.specs.declared.program.Program.{Program}
+use Rattle.std.proofs.Common.{List, refl, arith}
 use Rattle.ml_tree.specs.declared.program.Item.{Item}
 use Rattle.ml_tree.specs.declared.program.ItemKind.{ItemKind}
 use Rattle.ml_tree.specs.declared.program.ItemKind.TheVariants as K
-use Rattle.ml_numbers.specs.declared.next.Next.{Next}
-use Rattle.ml_numbers.specs.Steps.{Step, node, one, two, each}
+use Rattle.ml_numbers.specs.Steps.{node}
 use Rattle.ml_numbers.specs.Ids.{Ids, joined, IsNumbered}
 use Rattle.ml_numbers.specs.Ids as I
 use Rattle.ml_numbers.specs.Numbered.{numbered_decl, numbered_bind, numbered_item_kind, numbered_item, numbered}
-use Rattle.ml_numbers.proofs.Runs.{Run, Numbers, list_of, numbers_node, numbers_one, numbers_two, numbers_each, counted}
+use Rattle.ml_numbers.proofs.Runs.{Numbers, list_of, numbers_node, numbers_one, numbers_two, numbers_each, counted}
 use Rattle.ml_numbers.proofs.TypeRuns.{decl_numbers}
 use Rattle.ml_numbers.proofs.ExprRuns.{bind_numbers}
 

@@ -1,23 +1,21 @@
 -- The numbers of expressions.
-use Rattle.std.proofs.Common.{◌≡◌, ℕ, List, [], ◌∷◌, map, Option, Some, None, refl, sym, ap, ◌∙◌, subst}
-use Rattle.ml_numbers.specs.declared.next.Next.{Next}
-use Rattle.ml_numbers.specs.Steps.{Step, done, ◌>>=◌, node, of_type, one, two, three, each, perhaps}
+use Rattle.std.proofs.Common.{◌≡◌, Option, Some, None, refl, sym, ap, ◌∙◌, subst}
+use Rattle.ml_numbers.specs.Steps.{Step, node}
 use Rattle.ml_numbers.specs.Ids.{Ids, no_ids, node_id, type_id, joined, all}
 use Rattle.ml_numbers.specs.Ids as I
 use Rattle.ml_tree.specs.declared.types.TyExpr.{TyExpr}
 use Rattle.ml_tree.specs.declared.pattern.Pat.{Pat}
-use Rattle.ml_tree.specs.declared.pattern.Param.{Param}
 use Rattle.ml_tree.specs.declared.pattern.ConName.{ConName}
-use Rattle.ml_tree.specs.declared.expr.Expr.{Expr, fold-Expr, ind-Expr, fold-roll-Expr, map-Expr, roll-Expr}
-use Rattle.ml_tree.specs.declared.expr.Arm.{Arm, fold-Arm, fold-roll-Arm, map-Arm, roll-Arm}
-use Rattle.ml_tree.specs.declared.expr.Bind.{Bind, fold-Bind, ind-Bind, fold-roll-Bind, map-Bind, roll-Bind}
-use Rattle.ml_tree.specs.declared.expr.FieldExpr.{FieldExpr, fold-FieldExpr, fold-roll-FieldExpr, map-FieldExpr, roll-FieldExpr}
-use Rattle.ml_tree.specs.declared.expr.ExprKind.{ExprKind, fold-ExprKind, fold-roll-ExprKind, map-ExprKind, roll-ExprKind}
+use Rattle.ml_tree.specs.declared.expr.Expr.{Expr, ind-Expr, fold-roll-Expr, map-Expr, roll-Expr}
+use Rattle.ml_tree.specs.declared.expr.Arm.{Arm, fold-roll-Arm, map-Arm, roll-Arm}
+use Rattle.ml_tree.specs.declared.expr.Bind.{Bind, ind-Bind, fold-roll-Bind, map-Bind, roll-Bind}
+use Rattle.ml_tree.specs.declared.expr.FieldExpr.{FieldExpr, fold-roll-FieldExpr, map-FieldExpr, roll-FieldExpr}
+use Rattle.ml_tree.specs.declared.expr.ExprKind.{ExprKind, fold-roll-ExprKind, map-ExprKind, roll-ExprKind}
 use Rattle.ml_tree.specs.declared.expr.ExprKind.TheVariants as E
 use Rattle.ml_tree.specs.declared.expr.ExprKind.TheOpen as e
 use Rattle.ml_tree.specs.declared.expr.ExprKind.TheOpen.{ExprKind-F, Arm-F, Bind-F, Expr-F, FieldExpr-F}
 use Rattle.ml_numbers.specs.Numbered.{step, arm_step, bind_step, expr_node, field_node, numbered_expr, numbered_kind, numbered_arm, numbered_bind, numbered_field, numbered_result}
-use Rattle.ml_numbers.proofs.Runs.{Numbers, list_of, maybe_of, numbers_node, numbers_done, numbers_one, numbers_two, numbers_three, numbers_four, numbers_each, numbers_parts}
+use Rattle.ml_numbers.proofs.Runs.{Numbers, list_of, maybe_of, numbers_node, numbers_done, numbers_one, numbers_two, numbers_three, numbers_four, numbers_parts}
 use Rattle.ml_numbers.proofs.TypeRuns.{type_numbers}
 use Rattle.ml_numbers.proofs.PatternRuns.{pattern_numbers, params_numbers}
 

@@ -1,12 +1,11 @@
 -- The numbers of patterns.
-use Rattle.std.proofs.Common.{◌≡◌, ℕ, List, [], ◌∷◌, map, Option, Some, None, refl, sym, ap, ◌∙◌, subst}
-use Rattle.ml_numbers.specs.declared.next.Next.{Next}
-use Rattle.ml_numbers.specs.Steps.{Step, done, ◌>>=◌, node, of_type, one, two, three, each, perhaps}
+use Rattle.std.proofs.Common.{◌≡◌, List, Option, Some, None, refl, sym, ap, ◌∙◌, subst}
+use Rattle.ml_numbers.specs.Steps.{Step, node}
 use Rattle.ml_numbers.specs.Ids.{Ids, no_ids, node_id, type_id, joined, all}
 use Rattle.ml_numbers.specs.Ids as I
-use Rattle.ml_tree.specs.declared.pattern.Pat.{Pat, fold-Pat, ind-Pat, fold-roll-Pat, map-Pat, roll-Pat}
-use Rattle.ml_tree.specs.declared.pattern.FieldPat.{FieldPat, fold-FieldPat, fold-roll-FieldPat, map-FieldPat, roll-FieldPat}
-use Rattle.ml_tree.specs.declared.pattern.PatKind.{PatKind, fold-PatKind, fold-roll-PatKind, map-PatKind, roll-PatKind}
+use Rattle.ml_tree.specs.declared.pattern.Pat.{Pat, ind-Pat, fold-roll-Pat, map-Pat, roll-Pat}
+use Rattle.ml_tree.specs.declared.pattern.FieldPat.{FieldPat, fold-roll-FieldPat, map-FieldPat, roll-FieldPat}
+use Rattle.ml_tree.specs.declared.pattern.PatKind.{PatKind, fold-roll-PatKind, map-PatKind, roll-PatKind}
 use Rattle.ml_tree.specs.declared.pattern.PatKind.TheVariants as P
 use Rattle.ml_tree.specs.declared.pattern.PatKind.TheOpen as p
 use Rattle.ml_tree.specs.declared.pattern.PatKind.TheOpen.{PatKind-F, FieldPat-F, Pat-F}

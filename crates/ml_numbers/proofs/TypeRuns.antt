@@ -1,12 +1,11 @@
 -- The numbers of type expressions.
-use Rattle.std.proofs.Common.{◌≡◌, ℕ, List, [], ◌∷◌, map, Option, Some, None, refl, sym, ap, ◌∙◌, subst}
-use Rattle.ml_numbers.specs.declared.next.Next.{Next}
-use Rattle.ml_numbers.specs.Steps.{Step, done, ◌>>=◌, node, of_type, one, two, three, each, perhaps}
+use Rattle.std.proofs.Common.{◌≡◌, refl, sym, ap, ◌∙◌, subst}
+use Rattle.ml_numbers.specs.Steps.{Step, of_type}
 use Rattle.ml_numbers.specs.Ids.{Ids, no_ids, node_id, type_id, joined, all}
 use Rattle.ml_numbers.specs.Ids as I
-use Rattle.ml_tree.specs.declared.types.TyExpr.{TyExpr, fold-TyExpr, ind-TyExpr, fold-roll-TyExpr, map-TyExpr, roll-TyExpr}
-use Rattle.ml_tree.specs.declared.types.Arg.{Arg, fold-Arg, ind-Arg, fold-roll-Arg, map-Arg, roll-Arg}
-use Rattle.ml_tree.specs.declared.types.TyKind.{TyKind, fold-TyKind, fold-roll-TyKind, map-TyKind, roll-TyKind}
+use Rattle.ml_tree.specs.declared.types.TyExpr.{TyExpr, ind-TyExpr, fold-roll-TyExpr, map-TyExpr, roll-TyExpr}
+use Rattle.ml_tree.specs.declared.types.Arg.{Arg, ind-Arg, fold-roll-Arg, map-Arg, roll-Arg}
+use Rattle.ml_tree.specs.declared.types.TyKind.{TyKind, fold-roll-TyKind, map-TyKind, roll-TyKind}
 use Rattle.ml_tree.specs.declared.types.TyKind.TheVariants as T
 use Rattle.ml_tree.specs.declared.types.TyKind.TheOpen as t
 use Rattle.ml_tree.specs.declared.types.TyKind.TheOpen.{TyKind-F, Arg-F, TyExpr-F}

@@ -1,6 +1,6 @@
 -- A program with its numbers: nodes and type expressions are numbered from 0 on in the order of the
 -- source, each before its parts. All else stays as it is.
-use Rattle.std.specs.Prelude.{ℕ, List, map, Option, Some, None}
+use Rattle.std.specs.Prelude.{List, map, Option}
 use Rattle.std.specs.Option.{option_map}
 use Rattle.ml_tree.specs.declared.types.TyExpr.{TyExpr, fold-TyExpr, roll-TyExpr}
 use Rattle.ml_tree.specs.declared.types.TyKind.{TyKind, fold-TyKind}

@@ -1,4 +1,5 @@
 ghost use Rattle.std.specs.Prelude.{◌≡◌, map, IfOk};
+ghost use Rattle.ml_numbers.specs.Bare.{bare};
 ghost use Rattle.ml_numbers.specs.Ids.{IsNumbered};
 ghost use Rattle.ml_numbers.specs.Steps.{each};
 ghost use Rattle.ml_numbers.specs.Numbered.{numbered_item_kind, numbered_item, numbered};
@@ -55,6 +56,7 @@ fn number_items(alloc: Global, list: &[Item], next: &mut Next) -> Result<Items<I
 pub fn number(alloc: Global, items: &[Item]) -> Result<Program, NoMemory>
     ensures is { IfOk result (λ program. program ≡ numbered items.now) }
     ensures counts_up { IfOk result IsNumbered }
+    ensures stays { IfOk result (λ program. bare program.items ≡ bare items.now) }
 {
     let mut next = Next { nodes: 0, types: 0 };
     let items = number_items(alloc, items, &mut next)?;

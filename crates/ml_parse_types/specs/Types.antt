@@ -14,7 +14,7 @@ use Rattle.ml_cursor.specs.Places.{first_span, extent}
 use Rattle.ml_parse_types.specs.declared.looks.Row.{Row}
 use Rattle.ml_parse_types.specs.declared.looks.Row.TheVariants.{Alone, Factors, Arguments}
 use Rattle.ml_parse_types.specs.declared.looks.After.{After}
-use Rattle.ml_parse_types.specs.declared.looks.After.TheVariants.{Goes, Ends, Fails}
+use Rattle.ml_parse_types.specs.declared.looks.After.TheVariants.{Goes, Ends}
 use Rattle.ml_parse_types.specs.declared.looks.TypeStart.{TypeStart}
 use Rattle.ml_parse_types.specs.declared.looks.TypeStart.TheVariants.{Variable, Named, Group}
 use Rattle.ml_parse_types.specs.declared.words.WordStep.{WordStep}
@@ -149,7 +149,7 @@ mutual
     to_arrow : {k : Row} {ts : List Token} {w : Words} {p : Read TyExpr} {a : Read Arg} →
         ReadsSide k (drop 1 p.rest) a →
         SideBy k true ts w p
-            (read (an_arg no_words (an_arrow (extent ts a.rest) (an_arg w p.value) a.value)) (suc (max p.depth a.depth)) a.rest)
+        (read (an_arg no_words (an_arrow (extent ts a.rest) (an_arg w p.value) a.value)) (suc (max p.depth a.depth)) a.rest)
 
 abbrev pub SideFrom : Row → List Token → Words → Read TyExpr → Read Arg → Type 0
 SideFrom k ts w p o = SideBy k (is_arrow (front p.rest)) ts w p o
