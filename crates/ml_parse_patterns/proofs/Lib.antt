@@ -1,10 +1,12 @@
 mod Chains
 mod Depths
+mod Exits
 mod Founds
 mod ListReadings
 mod ParamReadings
 mod Places
 mod Refusals
+mod Relays
 mod Shorter
 mod TextTokens
 mod Unique
