@@ -60,7 +60,7 @@ elements_found text n ts hs r l f e h b m =
     let depth : b.deepest ≡ l.depth = (let o = b.depth_is in omega arith) in
     let moved : ReadsList text Elements (drop 1 ts) b.more b.deepest r = subst (λ (x : List Token). ReadsList text Elements x b.more b.deepest r) h b.reads in
     let list : ReadsList text Elements (drop 1 ts) l.list l.depth r =
-        subst (λ (d : ℕ). ReadsList text Elements (drop 1 ts) l.list d r) depth (subst (λ (ps : List Pat). ReadsList text Elements (drop 1 ts) ps b.deepest r) (sym b.list_is) moved) in
+    subst (λ (d : ℕ). ReadsList text Elements (drop 1 ts) l.list d r) depth (subst (λ (ps : List Pat). ReadsList text Elements (drop 1 ts) ps b.deepest r) (sym b.list_is) moved) in
     record { reads = made m refl (by_its_lead e (bracket list)); small = (let s = b.small in let o = m.depth_is in omega arith) }
 
 pub record_found : (text : List ℕ) (n : ℕ) (ts hs r : List Token) (l : FoundFields) (f : Found) → lead ts ≡ Brace → hs ≡ drop 1 ts → AreFields text n hs r l → IsNode ts r (Kind.Fields l.list l.more) (l.depth + 1) f → IsFound text Simple (n + 1) ts r f
@@ -91,7 +91,7 @@ pub tuple_found : (text : List ℕ) (n k : ℕ) (ts us hs r : List Token) (p f :
 tuple_found text n k ts us hs r p f l b e h c m =
     let list : ReadsList text Components (drop 1 us) c.more c.deepest r = subst (λ (x : List Token). ReadsList text Components x c.more c.deepest r) h c.reads in
     let here : IsNode ts r (Kind.Tuple (p.pat ∷ c.more)) (max p.depth c.deepest + 1) f =
-        record { tree = m.tree ∙ ap (λ (ps : List Pat). node ts r (Kind.Tuple ps)) c.list_is; depth_is = m.depth_is ∙ ap (λ d. d + 1) c.depth_is } in
+    record { tree = m.tree ∙ ap (λ (ps : List Pat). node ts r (Kind.Tuple ps)) c.list_is; depth_is = m.depth_is ∙ ap (λ d. d + 1) c.depth_is } in
     record { reads = made here refl (tuple b.reads e list); small = (let s = c.small in let o = m.depth_is in omega arith) }
 
 pub pattern_found : (text : List ℕ) (n k : ℕ) (ts us vs r : List Token) (p q f : Found) → IsFound text Tuple k ts us p → HasOthers text n ts us vs p q → HasNames n ts vs r q f → IsFound text Pattern n ts r f

@@ -8,6 +8,8 @@ mod looks;
 mod nodes;
 mod params;
 mod simple;
+#[cfg(test)]
+mod tests;
 
 pub use found::{Found, FoundParam, FoundParams};
 pub use levels::read_pattern;

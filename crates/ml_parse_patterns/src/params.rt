@@ -48,7 +48,13 @@ fn found(words: Words, read: Found) -> FoundParam
 }
 
 /// Reads the type and the `)` behind a pattern which begins at `from`; the node ends with the type.
-fn add_type(alloc: Global, tokens: &[Token], at: &mut usize, from: usize, inner: Found) -> Result<Found, ParseErr>
+fn add_type(
+    alloc: Global,
+    tokens: &[Token],
+    at: &mut usize,
+    from: usize,
+    inner: Found,
+) -> Result<Found, ParseErr>
     requires { inner.depth + 1 < 2 ^ 32 }
     ensures ok { IfOk result (HasType tokens.now (drop from tokens.now) (drop at.old tokens.now) (drop at.new tokens.now) inner) }
     ensures err { IfErr result (Says tokens.now (NoAnnotation (drop at.old tokens.now))) }

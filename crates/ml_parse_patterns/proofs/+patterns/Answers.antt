@@ -1,4 +1,5 @@
-use Rattle.std.proofs.Common.{◌≡◌, ◌≢◌, ◌+◌, ◌-◌, ◌≤◌, ◌<◌, Bool, true, false, [], ◌∷◌, drop, refl, sym, ap, ap₂, ◌∙◌, arith, rules}
+use Rattle.std.proofs.Common.{◌≡◌, ◌≢◌, ◌+◌, ◌-◌, ◌≤◌, ◌<◌, Bool, true, false, [], ◌∷◌, ◌++◌, max, drop, refl, sym, ap, ap₂, ◌∙◌, arith, rules}
+use Rattle.std.proofs.lemmas.Grind.{common_steps}
 use Rattle.oxml_base.specs.declared.span.Span.{Span}
 use Rattle.ml_tree.specs.declared.pattern.FieldPat.{FieldPat}
 use Rattle.ml_tree.specs.declared.pattern.Pat.{Pat}
@@ -9,7 +10,7 @@ use Rattle.ml_cursor.specs.Places.{first_span}
 use Rattle.ml_parse_patterns.specs.declared.looks.Leaf.TheVariants.{Bound}
 use Rattle.ml_parse_patterns.specs.declared.looks.Level.TheVariants.{Simple, Operand, Cons, Tuple, Or, Pattern}
 use Rattle.ml_parse_patterns.specs.Looks.{node, leaf_kind, lead, applies}
-use Rattle.ml_parse_patterns.specs.Readings.{NoTree, IsFound}
+use Rattle.ml_parse_patterns.specs.Patterns.{level_of}
 use Rattle.ml_parse_patterns.proofs.Relays.{relay, says, if_ok, if_err}
 use Rattle.ml_parse_patterns.proofs.Refusals.{nothing_begins, none_at_all, parens_open, parens_untyped, operand_bare, cons_deep, cons_full, tuple_deep, tuple_full, pattern_cons, pattern_tuple, pattern_others, pattern_names}
 use Rattle.ml_parse_patterns.proofs.Founds.{wider, paren_found, typed_found, record_found, bare_found, no_cons_found, no_tuple_found, pattern_found, or_found}
@@ -150,27 +151,35 @@ lists::read_field-returns-clause-ok t c =
     let other' : front (drop c.accept.new.at c.args.tokens.now) ≢ Front.Equal = (λ h. other (sym (ap (λ k. front (drop k c.args.tokens.now)) stays) ∙ h)) in
     let some : 1 ≤ c.args.left = omega arith in
     let kind = c.leaf_kind.ensures ∙ ap (λ (s : Span). leaf_kind (Bound s)) named.span_is in
-    let pat = c.node.ensures ∙ ap (λ (k : PatKind). node (drop c.args.at.now c.args.tokens.now) (drop c.accept.new.at c.args.tokens.now) k) kind in
+    let pat = c.node-pat.ensures ∙ ap (λ (k : PatKind). node (drop c.args.at.now c.args.tokens.now) (drop c.accept.new.at c.args.tokens.now) k) kind in
     let tree = ap₂ (λ (s : Span) (p : Pat). let f : FieldPat = record { id = 0; name = s; pat = p } in f) named.span_is pat in
     pun_found _ _ _ _ _ named.stands (ap (λ k. drop k c.args.tokens.now) stays ∙ named.rest_is) other' some tree refl
 
 pub lists::read_fields-fields-init : goal.lists::read_fields-fields-init
-lists::read_fields-fields-init t c = fields_begin _ _ _ _ c.new.ensures
+lists::read_fields-fields-init t c = fields_begin _ _ _ _ c.new-list.ensures
 
 pub lists::read_fields-returns-in_err-one-clause-err : goal.lists::read_fields-returns-in_err-one-clause-err
 lists::read_fields-returns-in_err-one-clause-err t c = relay _ _ _ (fields_deep _ _ _ _ _ _ c.fields.invariant) c.in_err-one.ensures.err c.from_residual.ensures.1
 
 pub lists::read_fields-fields-smaller : goal.lists::read_fields-fields-smaller
-lists::read_fields-fields-smaller t c = fields_smaller _ _ _ _ _ _ c.in_ok-one.one c.in_ok-one.ensures.ok c.pass_all.ensures
+lists::read_fields-fields-smaller t c =
+    fields_smaller c.args.text.now c.args.left 1 (drop c.fields.at c.args.tokens.now) (drop c.read_field.new.at c.args.tokens.now) (drop c.pass_all.new.at c.args.tokens.now) c.in_ok-one.one c.in_ok-one.ensures.ok c.pass_all.ensures
 
 pub lists::read_fields-fields-preserved : goal.lists::read_fields-fields-preserved
-lists::read_fields-fields-preserved t c = ?
+lists::read_fields-fields-preserved t c =
+    let i : c.push.new.self ≡ c.fields.list ++ c.in_ok-one.one.field ∷ [] = first_of (search rules, grind (arith, common_steps)) in
+    let d : c.max-deepest.result ≡ max c.fields.deepest c.in_ok-one.one.depth = first_of (search rules, grind (arith, common_steps)) in
+    fields_go_on c.args.text.now _ _ _ (drop c.read_field.new.at c.args.tokens.now) _ _ _ _ _ c.in_ok-one.one c.fields.invariant c.in_ok-one.ensures.ok (sym c.in-Next.ensures) c.pass_all.ensures i d
 
 pub lists::read_fields-returns-in-Ends-clause-ok : goal.lists::read_fields-returns-in-Ends-clause-ok
-lists::read_fields-returns-in-Ends-clause-ok t c = ?
+lists::read_fields-returns-in-Ends-clause-ok t c =
+    let i : c.push.new.self ≡ c.fields.list ++ c.in_ok-one.one.field ∷ [] = first_of (search rules, grind (arith, common_steps)) in
+    let d : c.max-deepest.result ≡ max c.fields.deepest c.in_ok-one.one.depth = first_of (search rules, grind (arith, common_steps)) in
+    fields_end c.args.text.now _ c.in-Ends.count _ _ (drop c.read_field.new.at c.args.tokens.now) _ _ _ c.in_ok-one.one c.in-Ends.more _ c.fields.invariant c.in_ok-one.ensures.ok (sym c.in-Ends.ensures) c.pass_all-in-Ends.ensures i refl d
 
 pub lists::read_fields-returns-in-Broken-clause-err : goal.lists::read_fields-returns-in-Broken-clause-err
-lists::read_fields-returns-in-Broken-clause-err t c = ?
+lists::read_fields-returns-in-Broken-clause-err t c =
+    (c.give_up_fields.ensures, fields_fail c.args.text.now _ _ _ (drop c.read_field.new.at c.args.tokens.now) _ _ c.in_ok-one.one c.fields.invariant c.in_ok-one.ensures.ok (sym c.in-Broken.ensures))
 
 pub lists::read_list-list-init : goal.lists::read_list-list-init
 lists::read_list-list-init t c = begins (PatList c.args.text.now c.args.listing) _ _ _ _ c.requires.small
@@ -179,16 +188,24 @@ pub lists::read_list-returns-in_err-one-clause-err : goal.lists::read_list-retur
 lists::read_list-returns-in_err-one-clause-err t c = relay _ _ _ (list_deep _ _ _ _ _ _ _ _ _ c.list.invariant) c.in_err-one.ensures.err c.from_residual.ensures.1
 
 pub lists::read_list-list-smaller : goal.lists::read_list-list-smaller
-lists::read_list-list-smaller t c = ?
+lists::read_list-list-smaller t c =
+    list_smaller c.args.text.now (level_of c.args.listing) c.args.left c.in-Goes.count (drop c.list.at c.args.tokens.now) (drop c.read_part.new.at c.args.tokens.now) (drop c.pass_all.new.at c.args.tokens.now) c.in_ok-one.one c.in_ok-one.ensures.ok c.pass_all.ensures
 
 pub lists::read_list-list-preserved : goal.lists::read_list-list-preserved
-lists::read_list-list-preserved t c = ?
+lists::read_list-list-preserved t c =
+    let i : c.push.new.self ≡ c.list.list ++ c.in_ok-one.one.pat ∷ [] = first_of (search rules, grind (arith, common_steps)) in
+    let d : c.max-deepest.result ≡ max c.list.deepest c.in_ok-one.one.depth = first_of (search rules, grind (arith, common_steps)) in
+    list_goes_on c.args.text.now c.args.listing _ c.in-Goes.count _ _ _ _ (drop c.read_part.new.at c.args.tokens.now) _ _ _ _ _ c.in_ok-one.one c.list.invariant c.in_ok-one.ensures.ok (sym c.in-Goes.ensures) c.pass_all.ensures i d
 
 pub lists::read_list-returns-in-Stops-clause-ok : goal.lists::read_list-returns-in-Stops-clause-ok
-lists::read_list-returns-in-Stops-clause-ok t c = ?
+lists::read_list-returns-in-Stops-clause-ok t c =
+    let i : c.push.new.self ≡ c.list.list ++ c.in_ok-one.one.pat ∷ [] = first_of (search rules, grind (arith, common_steps)) in
+    let d : c.max-deepest.result ≡ max c.list.deepest c.in_ok-one.one.depth = first_of (search rules, grind (arith, common_steps)) in
+    list_ends c.args.text.now c.args.listing _ c.in-Stops.count _ _ _ _ (drop c.read_part.new.at c.args.tokens.now) _ _ _ c.in_ok-one.one _ c.list.invariant c.in_ok-one.ensures.ok (sym c.in-Stops.ensures) c.pass_all-in-Stops.ensures i d
 
 pub lists::read_list-returns-in-Fails-clause-err : goal.lists::read_list-returns-in-Fails-clause-err
-lists::read_list-returns-in-Fails-clause-err t c = ?
+lists::read_list-returns-in-Fails-clause-err t c =
+    (c.give_up_list.ensures, list_fails c.args.text.now c.args.listing _ _ _ _ _ (drop c.read_part.new.at c.args.tokens.now) _ _ c.in_ok-one.one c.list.invariant c.in_ok-one.ensures.ok (sym c.in-Fails.ensures))
 
 pub simple::read_elements-returns-in_err-read-clause-err : goal.simple::read_elements-returns-in_err-read-clause-err
 simple::read_elements-returns-in_err-read-clause-err t c = relay _ _ _ (elements_deep_at _ _ _ _ c.requires.begins c.pass.ensures) c.in_err-read.ensures.err c.from_residual.ensures.1
@@ -215,34 +232,52 @@ simple::read_operand-returns-then-not-applies_at-clause-err t c =
     if_err c.read_simple.result (λ e s. says _ e (operand_bare _ _ _ none) s) c.read_simple.ensures.err
 
 pub simple::read_operand-returns-in_default-clause-err : goal.simple::read_operand-returns-in_default-clause-err
-simple::read_operand-returns-in_default-clause-err t c = ?
+simple::read_operand-returns-in_default-clause-err t c =
+    let none : c.args.left ≡ 0 = first_of (search rules, grind (arith, common_steps)) in
+    (c.refusal_at.ensures, no_left _ _ _ _ none)
 
 pub simple::read_operand-returns-in_err-inner-clause-err : goal.simple::read_operand-returns-in_err-inner-clause-err
-simple::read_operand-returns-in_err-inner-clause-err t c = ?
+simple::read_operand-returns-in_err-inner-clause-err t c =
+    let more : c.args.left ≡ c.in-Some.below + 1 = first_of (search rules, grind (arith, common_steps)) in
+    let here : applies (drop c.args.at.now c.args.tokens.now) ≡ true = first_of (search rules, grind (arith, common_steps)) in
+    relay _ _ _ (applied_deep_at c.args.text.now c.args.left c.in-Some.below _ _ more here c.pass.ensures) c.in_err-inner.ensures.err c.from_residual.ensures.1
 
 pub simple::read_operand-returns-clause-ok : goal.simple::read_operand-returns-clause-ok
-simple::read_operand-returns-clause-ok t c = ?
+simple::read_operand-returns-clause-ok t c =
+    let more : c.args.left ≡ c.in-Some.below + 1 = first_of (search rules, grind (arith, common_steps)) in
+    let here : applies (drop c.args.at.now c.args.tokens.now) ≡ true = first_of (search rules, grind (arith, common_steps)) in
+    applied_found_at c.args.text.now c.args.left c.in-Some.below _ _ _ c.in_ok-inner.inner _ c.span_at.result more here c.pass.ensures c.in_ok-inner.ensures.ok c.span_at.ensures.first c.in_ok-applied.ensures
 
 pub simple::read_parens-returns-in_err-inner-clause-err : goal.simple::read_parens-returns-in_err-inner-clause-err
 simple::read_parens-returns-in_err-inner-clause-err t c = relay _ _ _ (parens_deep_at _ _ _ _ c.requires.begins c.pass.ensures) c.in_err-inner.ensures.err c.from_residual.ensures.1
 
 pub simple::read_simple-returns-in_default-clause-err : goal.simple::read_simple-returns-in_default-clause-err
-simple::read_simple-returns-in_default-clause-err t c = ?
+simple::read_simple-returns-in_default-clause-err t c =
+    let none : c.args.left ≡ 0 = first_of (search rules, grind (arith, common_steps)) in
+    (c.refusal_at.ensures, no_left _ _ _ _ none)
 
 pub simple::read_simple-returns-in-Nothing-clause-err : goal.simple::read_simple-returns-in-Nothing-clause-err
-simple::read_simple-returns-in-Nothing-clause-err t c = ?
+simple::read_simple-returns-in-Nothing-clause-err t c = (c.refusal_at-in-Nothing.ensures, nothing_begins _ _ _ (sym c.in-Nothing.ensures))
 
 pub simple::read_simple-returns-in-Whole-clause-ok : goal.simple::read_simple-returns-in-Whole-clause-ok
-simple::read_simple-returns-in-Whole-clause-ok t c = ?
+simple::read_simple-returns-in-Whole-clause-ok t c =
+    let some : 1 ≤ c.args.left = first_of (search rules, grind (arith, common_steps)) in
+    wider some (c.read_leaf.ensures c.args.text.now)
 
 pub simple::read_simple-returns-in-Name-clause-ok : goal.simple::read_simple-returns-in-Name-clause-ok
-simple::read_simple-returns-in-Name-clause-ok t c = ?
+simple::read_simple-returns-in-Name-clause-ok t c =
+    let some : 1 ≤ c.args.left = first_of (search rules, grind (arith, common_steps)) in
+    if_ok c.read_name.result (λ f h. wider some h) (c.read_name.ensures.ok c.args.text.now)
 
 pub simple::read_simple-returns-in-Name-clause-err : goal.simple::read_simple-returns-in-Name-clause-err
-simple::read_simple-returns-in-Name-clause-err t c = ?
+simple::read_simple-returns-in-Name-clause-err t c =
+    if_err c.read_name.result (λ e s. says _ e (none_at_all _ _ _) s) (c.read_name.ensures.err c.args.text.now)
 
 pub simple::read_simple-returns-in-Quoted-clause-ok : goal.simple::read_simple-returns-in-Quoted-clause-ok
-simple::read_simple-returns-in-Quoted-clause-ok t c = ?
+simple::read_simple-returns-in-Quoted-clause-ok t c =
+    let some : 1 ≤ c.args.left = first_of (search rules, grind (arith, common_steps)) in
+    if_ok c.read_text.result (λ f h. wider some h) c.read_text.ensures.ok
 
 pub simple::read_simple-returns-in-Quoted-clause-err : goal.simple::read_simple-returns-in-Quoted-clause-err
-simple::read_simple-returns-in-Quoted-clause-err t c = ?
+simple::read_simple-returns-in-Quoted-clause-err t c =
+    if_err c.read_text.result (λ e s. says _ e (none_at_all _ _ _) s) c.read_text.ensures.err

@@ -13,4 +13,4 @@ text_bytes-requires c = text_token c.args.text.now c.args.tokens.now c.args.at.n
 pub returns-clause-ok : goal.returns-clause-ok
 returns-clause-ok c =
     text_found c.args.text.now c.args.tokens.now c.args.at.now c.in-Some.field-0.now c.in-Ok.literal.bytes _ _ c.requires.begins
-        (sym c.at.ensures ∙ ap option_copied c.in-Some.is) c.in-Ok.ensures c.pass.ensures (record { tree = c.node.ensures; depth_is = refl })
+    (sym c.at.ensures ∙ ap option_copied c.in-Some.is) c.in-Ok.ensures c.pass.ensures (record { tree = c.node.ensures; depth_is = refl })
