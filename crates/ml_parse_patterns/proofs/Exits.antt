@@ -29,8 +29,8 @@ use Rattle.ml_parse_patterns.specs.declared.found.FoundParam.{FoundParam}
 use Rattle.ml_parse_patterns.specs.declared.found.Annotation.{Annotation}
 use Rattle.ml_parse_patterns.specs.Looks.{node, lead, applies, after, after_field, param_lead, is_param}
 use Rattle.ml_parse_patterns.specs.Patterns.{level_of, Reads, ReadsSimple, name}
-use Rattle.ml_parse_patterns.specs.Readings.{IsNode, IsFound, NoTree, IsNone, IsAnnotation, IsLonger, NoList, IsField, NoField, AreFields, NoFields, IsParam, NoOthers, HasOther}
-use Rattle.ml_parse_patterns.proofs.Refusals.{no_depth, by_lead, parens_deep, elements_deep, record_deep, operand_applied, cons_rest, tuple_rest}
+use Rattle.ml_parse_patterns.specs.Readings.{IsNode, IsFound, NoTree, IsNone, IsAnnotation, NoAnnotation, IsLonger, NoList, IsField, NoField, AreFields, NoFields, IsParam, NoOthers, HasOther}
+use Rattle.ml_parse_patterns.proofs.Refusals.{no_depth, by_lead, parens_deep, parens_open, parens_untyped, elements_deep, record_deep, operand_applied, cons_rest, tuple_rest}
 use Rattle.ml_parse_patterns.proofs.Founds.{made, by_its_lead, paren_found, typed_found, elements_found, record_found, applied_found, cons_found, tuple_found}
 use Rattle.ml_parse_patterns.proofs.Chains.{no_other_behind, other_found}
 use Rattle.ml_parse_patterns.proofs.Shorter.{shorter, field_shorter}
@@ -138,3 +138,10 @@ none_by_name v m (name w f) = m (sym (ap front (one_words v w).1) ∙ f)
 
 pub name_absent : (text : List ℕ) (ts us : List Token) (w : Words) → lead ts ≡ Name → ReadsWords ts (got w us) → front us ≢ Front.Lower → IsNone text ts
 name_absent text ts us w e v m = record { none = λ p d r a. none_by_name v m (by_lead e a) }
+
+-- behind a pattern in parentheses
+pub parens_open_at : (text : List ℕ) (n k : ℕ) (ts hs us : List Token) (f : Found) → lead ts ≡ Paren → hs ≡ drop 1 ts → IsFound text Pattern k hs us f → front us ≢ Front.CloseParen → front us ≢ Front.Colon → NoTree text Simple n ts
+parens_open_at text n k ts hs us f e h b m o = parens_open text n k ts us f e (subst (λ (x : List Token). IsFound text Pattern k x us f) h b) m o
+
+pub parens_untyped_at : (text : List ℕ) (n k : ℕ) (ts hs us : List Token) (f : Found) → lead ts ≡ Paren → hs ≡ drop 1 ts → IsFound text Pattern k hs us f → front us ≡ Front.Colon → NoAnnotation us → NoTree text Simple n ts
+parens_untyped_at text n k ts hs us f e h b m o = parens_untyped text n k ts us f e (subst (λ (x : List Token). IsFound text Pattern k x us f) h b) m o

@@ -12,12 +12,12 @@ use Rattle.ml_parse_patterns.specs.declared.looks.Level.TheVariants.{Simple, Ope
 use Rattle.ml_parse_patterns.specs.Looks.{node, leaf_kind, lead, applies}
 use Rattle.ml_parse_patterns.specs.Patterns.{level_of}
 use Rattle.ml_parse_patterns.proofs.Relays.{relay, says, if_ok, if_err}
-use Rattle.ml_parse_patterns.proofs.Refusals.{nothing_begins, none_at_all, parens_open, parens_untyped, operand_bare, cons_deep, cons_full, tuple_deep, tuple_full, pattern_cons, pattern_tuple, pattern_others, pattern_names}
+use Rattle.ml_parse_patterns.proofs.Refusals.{nothing_begins, none_at_all, operand_bare, cons_deep, cons_full, tuple_deep, tuple_full, pattern_cons, pattern_tuple, pattern_others, pattern_names}
 use Rattle.ml_parse_patterns.proofs.Founds.{wider, paren_found, typed_found, record_found, bare_found, no_cons_found, no_tuple_found, pattern_found, or_found}
 use Rattle.ml_parse_patterns.proofs.Chains.{no_room_for_other, others_begin, others_go_on, others_end, others_refused, other_shorter}
 use Rattle.ml_parse_patterns.proofs.ListReadings.{PatList, begins, list_deep, list_fails, fields_deep, fields_fail, fields_end}
 use Rattle.ml_parse_patterns.proofs.ParamReadings.{field_unnamed, field_deep, field_found, pun_found}
-use Rattle.ml_parse_patterns.proofs.Exits.{no_left, no_field_left, parens_deep_at, elements_deep_at, elements_found_at, record_deep_at, applied_deep_at, applied_found_at, cons_rest_at, cons_found_at, tuple_rest_at, tuple_found_at, other_deep_at, other_found_at, list_goes_on, list_ends, list_smaller, fields_begin, fields_go_on, fields_smaller}
+use Rattle.ml_parse_patterns.proofs.Exits.{parens_open_at, parens_untyped_at, no_left, no_field_left, parens_deep_at, elements_deep_at, elements_found_at, record_deep_at, applied_deep_at, applied_found_at, cons_rest_at, cons_found_at, tuple_rest_at, tuple_found_at, other_deep_at, other_found_at, list_goes_on, list_ends, list_smaller, fields_begin, fields_go_on, fields_smaller}
 use Rattle.ml_parse_patterns.proofs.+patterns.Goals as goal
 
 pub levels::add_cons-returns-then-not-stands-clause-ok : goal.levels::add_cons-returns-then-not-stands-clause-ok
@@ -281,3 +281,24 @@ simple::read_simple-returns-in-Quoted-clause-ok t c =
 pub simple::read_simple-returns-in-Quoted-clause-err : goal.simple::read_simple-returns-in-Quoted-clause-err
 simple::read_simple-returns-in-Quoted-clause-err t c =
     if_err c.read_text.result (λ e s. says _ e (none_at_all _ _ _) s) c.read_text.ensures.err
+
+pub simple::read_parens-returns-then-closes-clause-ok : goal.simple::read_parens-returns-then-closes-clause-ok
+simple::read_parens-returns-then-closes-clause-ok t c =
+    let closed : front (drop c.read_pattern.new.at c.args.tokens.now) ≡ Front.CloseParen = search rules in
+    paren_found _ _ _ _ _ _ c.in_ok-inner.inner _ c.requires.begins c.pass.ensures c.in_ok-inner.ensures.ok closed c.pass-then-closes.ensures c.in_ok-paren.ensures
+
+pub simple::read_parens-returns-then-not-goes_on-clause-err : goal.simple::read_parens-returns-then-not-goes_on-clause-err
+simple::read_parens-returns-then-not-goes_on-clause-err t c =
+    let unclosed : front (drop c.read_pattern.new.at c.args.tokens.now) ≢ Front.CloseParen = search rules in
+    let untyped : front (drop c.read_pattern.new.at c.args.tokens.now) ≢ Front.Colon = search rules in
+    (c.give_up.ensures, parens_open_at _ _ _ _ _ _ c.in_ok-inner.inner c.requires.begins c.pass.ensures c.in_ok-inner.ensures.ok unclosed untyped)
+
+pub simple::read_parens-returns-in_err-read-clause-err : goal.simple::read_parens-returns-in_err-read-clause-err
+simple::read_parens-returns-in_err-read-clause-err t c =
+    let colon : front (drop c.read_pattern.new.at c.args.tokens.now) ≡ Front.Colon = search rules in
+    relay _ _ _ (parens_untyped_at _ _ _ _ _ _ c.in_ok-inner.inner c.requires.begins c.pass.ensures c.in_ok-inner.ensures.ok colon) c.in_err-read.ensures.err c.from_residual-in_err-read.ensures.1
+
+pub simple::read_parens-returns-clause-ok : goal.simple::read_parens-returns-clause-ok
+simple::read_parens-returns-clause-ok t c =
+    let colon : front (drop c.read_pattern.new.at c.args.tokens.now) ≡ Front.Colon = search rules in
+    typed_found _ _ c.args.tokens.now _ _ _ _ c.in_ok-inner.inner _ c.in_ok-read.read c.requires.begins c.pass.ensures c.in_ok-inner.ensures.ok colon c.in_ok-read.ensures.ok c.in_ok-typed.ensures

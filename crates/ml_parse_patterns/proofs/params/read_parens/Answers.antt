@@ -34,4 +34,7 @@ returns-in_err-add_type-clause-err c =
     relay _ _ _ (param_untyped _ _ _ _ _ _ _ _ c.in_ok-inner.inner c.requires.begins c.pass.ensures c.in_ok-words.ensures.ok c.in_ok-inner.ensures.ok colon) c.in_err-add_type.ensures.err c.from_residual-in_err-add_type.ensures.1
 
 pub returns-clause-ok : goal.returns-clause-ok
-returns-clause-ok c = ?
+returns-clause-ok c =
+    let colon : front (drop c.read_pattern.new.at c.args.tokens.now) ≡ Front.Colon = search rules in
+    let param = ap₂ (λ (w : Words) (p : Pat). let m : Param = record { words = w; pat = p } in m) c.found-2.ensures.words c.found-2.ensures.pat in
+    typed_found _ _ _ c.args.tokens.now _ _ _ _ _ c.in_ok-words.words c.in_ok-inner.inner c.in_ok-add_type.field-0 _ c.requires.begins c.pass.ensures c.in_ok-words.ensures.ok c.in_ok-inner.ensures.ok c.if-inner-left.false colon c.in_ok-add_type.ensures.ok param c.found-2.ensures.depth
