@@ -5,9 +5,13 @@
 mod cursor;
 mod error;
 mod front;
+mod lets;
+#[cfg(test)]
+mod tests;
 
 pub use cursor::{
     accept, char_at, extent, front_at, int_at, pass, refusal_at, skip, span_at, stands, take,
 };
 pub use error::ParseErr;
 pub use front::Front;
+pub use lets::{begins_closed_let, closed_lets};

@@ -54,19 +54,19 @@ none_fails d = elim d [ ]
 pub items_more : {A : Type 0} (Item : List Token → Got A → Type 0) (behind : List Token → After) (start ts us vs : List Token) (acc more : List A) (a : A) (k : After) → IsOneThing Item → ItemsAlong Item behind start ts acc → Item ts (got a us) → k ≡ behind us → k ≡ Goes → vs ≡ drop 1 us → more ≡ acc ++ a ∷ [] → ItemsAlong Item behind start vs more
 items_more {A} Item behind start ts us vs acc more a k one along i h e v m = record {
   forth = λ o d.
-    let inner : ItemsBy Item behind Goes (got a us) (got (a ∷ o.value) o.rest) = next_item (subst (λ (x : List Token). ReadsItems Item behind x o) v d) in
-    let whole : ReadsItems Item behind ts (got (a ∷ o.value) o.rest) = items i (by_look Goes (behind us) (sym (sym h ∙ e)) inner) in
-    let far = along.forth _ whole in
-    subst (λ (x : List A). ReadsItems Item behind start (got x o.rest)) (sym (append-one acc o.value a) ∙ ap (λ (x : List A). x ++ o.value) (sym m)) far;
+      let inner : ItemsBy Item behind Goes (got a us) (got (a ∷ o.value) o.rest) = next_item (subst (λ (x : List Token). ReadsItems Item behind x o) v d) in
+      let whole : ReadsItems Item behind ts (got (a ∷ o.value) o.rest) = items i (by_look Goes (behind us) (sym (sym h ∙ e)) inner) in
+      let far = along.forth _ whole in
+      subst (λ (x : List A). ReadsItems Item behind start (got x o.rest)) (sym (append-one acc o.value a) ∙ ap (λ (x : List A). x ++ o.value) (sym m)) far;
   back = λ o d.
-    let far = along.back o d in
-    let by = opened one (got a us) i Goes (sym h ∙ e) far.reads in
-    let next = ungoes by in
-    record {
-      more = next.more;
-      reads = subst (λ (x : List Token). ReadsItems Item behind x next.more) (sym v) next.reads;
-      is = far.is ∙ (ap (behind_items acc) next.is ∙ (ap (λ (x : List A). got x next.more.rest) (sym (append-one acc next.more.value a) ∙ ap (λ (x : List A). x ++ next.more.value) (sym m))));
-    };
+      let far = along.back o d in
+      let by = opened one (got a us) i Goes (sym h ∙ e) far.reads in
+      let next = ungoes by in
+      record {
+        more = next.more;
+        reads = subst (λ (x : List Token). ReadsItems Item behind x next.more) (sym v) next.reads;
+        is = far.is ∙ (ap (behind_items acc) next.is ∙ (ap (λ (x : List A). got x next.more.rest) (sym (append-one acc next.more.value a) ∙ ap (λ (x : List A). x ++ next.more.value) (sym m))));
+      };
 }
 
 pub items_end : {A : Type 0} (Item : List Token → Got A → Type 0) (behind : List Token → After) (start ts us vs : List Token) (acc more : List A) (a : A) (k : After) (n : ℕ) → ItemsAlong Item behind start ts acc → Item ts (got a us) → k ≡ behind us → k ≡ Ends n → vs ≡ drop n us → more ≡ acc ++ a ∷ [] → ReadsItems Item behind start (got more vs)

@@ -1,6 +1,7 @@
 mod DeclParts
 pub mod ItemLists
 pub mod ModeWords
+mod Ranks
 mod Relays
 pub mod Shorter
 mod TypeLists

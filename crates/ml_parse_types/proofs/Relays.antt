@@ -21,3 +21,7 @@ if_ok (Err e) f h = h
 pub if_err : {A : Type 0} (r : Result A ParseErr) {P Q : ParseErr → Type 0} → ((e : ParseErr) → P e → Q e) → IfErr r P → IfErr r Q
 if_err (Ok v) f h = h
 if_err (Err e) f h = f e h
+
+pub if_both : {A : Type 0} (r : Result A ParseErr) {P Q R : A → Type 0} → ((v : A) → P v → Q v → R v) → IfOk r P → IfOk r Q → IfOk r R
+if_both (Ok v) f h i = f v h i
+if_both (Err e) f h i = h

@@ -77,17 +77,17 @@ regrouped acc more d e a f o r m h =
 pub row_more : (k : Row) (start ts us vs : List Token) (acc more : List TyExpr) (d e left : ℕ) (a : TyExpr) (f : ℕ) (w : After) → RowAlong k start ts acc d → IsFound (ReadsPart k ts) left (read a f us) → w ≡ behind_part k (front us) → w ≡ Goes → vs ≡ drop 1 us → more ≡ acc ++ a ∷ [] → e ≡ max d f → RowAlong k start vs more e
 row_more k start ts us vs acc more d e left a f w along found h g v m x = record {
   forth = λ o p.
-    let inner : ListBy k Goes (read a f us) (with_part (read a f us) o) = one_more (subst (λ (y : List Token). ReadsList k y o) v p) in
-    let whole : ReadsList k ts (with_part (read a f us) o) = row found.reads (by_look Goes (behind_part k (front us)) (sym (sym h ∙ g)) inner) in
-    subst (ReadsList k start) (regrouped acc more d e a f o us m x) (along.forth _ whole);
+      let inner : ListBy k Goes (read a f us) (with_part (read a f us) o) = one_more (subst (λ (y : List Token). ReadsList k y o) v p) in
+      let whole : ReadsList k ts (with_part (read a f us) o) = row found.reads (by_look Goes (behind_part k (front us)) (sym (sym h ∙ g)) inner) in
+      subst (ReadsList k start) (regrouped acc more d e a f o us m x) (along.forth _ whole);
   back = λ o p.
-    let far = along.back o p in
-    let next = ungoes (opened (read a f us) found.reads Goes (sym h ∙ g) far.reads) in
-    record {
-      more = next.more;
-      reads = subst (λ (y : List Token). ReadsList k y next.more) (sym v) next.reads;
-      is = far.is ∙ (ap (behind_parts acc d) next.is ∙ regrouped acc more d e a f next.more us m x);
-    };
+      let far = along.back o p in
+      let next = ungoes (opened (read a f us) found.reads Goes (sym h ∙ g) far.reads) in
+      record {
+        more = next.more;
+        reads = subst (λ (y : List Token). ReadsList k y next.more) (sym v) next.reads;
+        is = far.is ∙ (ap (behind_parts acc d) next.is ∙ regrouped acc more d e a f next.more us m x);
+      };
 }
 
 pub row_end : (k : Row) (start ts us vs : List Token) (acc more : List TyExpr) (d e left : ℕ) (a : TyExpr) (f : ℕ) (w : After) (n : ℕ) → RowAlong k start ts acc d → d ≤ left → IsFound (ReadsPart k ts) left (read a f us) → w ≡ behind_part k (front us) → w ≡ Ends n → vs ≡ drop n us → more ≡ acc ++ a ∷ [] → e ≡ max d f → IsFound (ReadsList k start) left (read more e vs)

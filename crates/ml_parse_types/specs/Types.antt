@@ -149,7 +149,7 @@ mutual
     to_arrow : {k : Row} {ts : List Token} {w : Words} {p : Read TyExpr} {a : Read Arg} →
         ReadsSide k (drop 1 p.rest) a →
         SideBy k true ts w p
-            (read (an_arg no_words (an_arrow (extent ts a.rest) (an_arg w p.value) a.value)) (suc (max p.depth a.depth)) a.rest)
+        (read (an_arg no_words (an_arrow (extent ts a.rest) (an_arg w p.value) a.value)) (suc (max p.depth a.depth)) a.rest)
 
 abbrev pub SideFrom : Row → List Token → Words → Read TyExpr → Read Arg → Type 0
 SideFrom k ts w p o = SideBy k (is_arrow (front p.rest)) ts w p o

@@ -30,11 +30,7 @@ fn read_var(tokens: &[Token], at: &mut usize) -> Result<Span, ParseErr>
 
 /// Variables with `,` between them, up to a `)`.
 #[tactic(auto, using(crate::proofs::ItemLists::items_none, crate::proofs::ItemLists::items_more, crate::proofs::ItemLists::items_end, crate::proofs::ItemLists::items_shorter, crate::proofs::Unique::same_var, crate::proofs::Shorter::var_rest))]
-fn read_vars(
-    alloc: Global,
-    tokens: &[Token],
-    at: &mut usize,
-) -> Result<Items<Span>, ParseErr>
+fn read_vars(alloc: Global, tokens: &[Token], at: &mut usize) -> Result<Items<Span>, ParseErr>
     ensures ok { IfOk result (λ l. ReadsItems ReadsVar var_behind (drop at.old tokens.now) (got l (drop at.new tokens.now))) }
     ensures err { IfErr result (Says tokens.now (IsNone (ReadsItems ReadsVar var_behind) (drop at.old tokens.now))) }
 {
@@ -66,11 +62,7 @@ fn one_var(alloc: Global, tokens: &[Token], at: &mut usize) -> Result<Items<Span
 
 /// The variables in front of a declared name.
 #[tactic(auto, using(crate::proofs::DeclParts::vars_none, crate::proofs::DeclParts::vars_one, crate::proofs::DeclParts::vars_many))]
-fn read_variables(
-    alloc: Global,
-    tokens: &[Token],
-    at: &mut usize,
-) -> Result<Items<Span>, ParseErr>
+fn read_variables(alloc: Global, tokens: &[Token], at: &mut usize) -> Result<Items<Span>, ParseErr>
     ensures ok { IfOk result (λ o. ReadsVars (drop at.old tokens.now) (got o (drop at.new tokens.now))) }
     ensures err { IfErr result (Says tokens.now (IsNone ReadsVars (drop at.old tokens.now))) }
 {
@@ -102,7 +94,7 @@ fn read_args(alloc: Global, tokens: &[Token], at: &mut usize) -> Result<Items<Ar
     ensures err { IfErr result (Says tokens.now (IsNone (ReadsItems ReadsArg arg_behind) (drop at.old tokens.now))) }
 {
     let mut list = Items::new(alloc);
-    'args: loop {
+    'more: loop {
         list.push(read_arg(alloc, tokens, at)?)?;
         match behind_factor(tokens, *at) {
             After::Goes => pass(tokens, at),
@@ -117,11 +109,7 @@ fn read_args(alloc: Global, tokens: &[Token], at: &mut usize) -> Result<Items<Ar
 
 /// What stands behind the name of a constructor.
 #[tactic(auto, using(crate::proofs::DeclParts::args_none, crate::proofs::DeclParts::args_many))]
-fn read_con_args(
-    alloc: Global,
-    tokens: &[Token],
-    at: &mut usize,
-) -> Result<Items<Arg>, ParseErr>
+fn read_con_args(alloc: Global, tokens: &[Token], at: &mut usize) -> Result<Items<Arg>, ParseErr>
     ensures ok { IfOk result (λ o. ReadsArgs (drop at.old tokens.now) (got o (drop at.new tokens.now))) }
     ensures err { IfErr result (Says tokens.now (IsNone ReadsArgs (drop at.old tokens.now))) }
 {
@@ -144,11 +132,7 @@ fn read_con(alloc: Global, tokens: &[Token], at: &mut usize) -> Result<ConDecl, 
 
 /// Constructors with `|` between them.
 #[tactic(auto, using(crate::proofs::ItemLists::items_none, crate::proofs::ItemLists::items_more, crate::proofs::ItemLists::items_end, crate::proofs::ItemLists::items_shorter, crate::proofs::Unique::same_con, crate::proofs::Shorter::con_rest))]
-fn read_cons(
-    alloc: Global,
-    tokens: &[Token],
-    at: &mut usize,
-) -> Result<Items<ConDecl>, ParseErr>
+fn read_cons(alloc: Global, tokens: &[Token], at: &mut usize) -> Result<Items<ConDecl>, ParseErr>
     ensures ok { IfOk result (λ o. ReadsItems ReadsCon con_behind (drop at.old tokens.now) (got o (drop at.new tokens.now))) }
     ensures err { IfErr result (Says tokens.now (IsNone (ReadsItems ReadsCon con_behind) (drop at.old tokens.now))) }
 {
@@ -241,11 +225,7 @@ fn read_decl(alloc: Global, tokens: &[Token], at: &mut usize) -> Result<Decl, Pa
 /// The declarations of a `type` item, with `and` between them, and the place goes past them. The
 /// word `type` has been passed.
 #[tactic(auto, using(crate::proofs::ItemLists::items_none, crate::proofs::ItemLists::items_more, crate::proofs::ItemLists::items_end, crate::proofs::ItemLists::items_shorter, crate::proofs::Unique::same_decl, crate::proofs::Shorter::decl_rest))]
-pub fn read_decls(
-    alloc: Global,
-    tokens: &[Token],
-    at: &mut usize,
-) -> Result<Items<Decl>, ParseErr>
+pub fn read_decls(alloc: Global, tokens: &[Token], at: &mut usize) -> Result<Items<Decl>, ParseErr>
     ensures ok { IfOk result (λ o. ReadsDecls (drop at.old tokens.now) (got o (drop at.new tokens.now))) }
     ensures err { IfErr result (Says tokens.now (IsNone ReadsDecls (drop at.old tokens.now))) }
 {

@@ -30,12 +30,7 @@ pub fn make_applied(span: Span, name: Span, args: Items<TyExpr>) -> TyExpr
 }
 
 /// A name applied to one type.
-pub fn make_postfix(
-    alloc: Global,
-    span: Span,
-    name: Span,
-    arg: TyExpr,
-) -> Result<TyExpr, ParseErr>
+pub fn make_postfix(alloc: Global, span: Span, name: Span, arg: TyExpr) -> Result<TyExpr, ParseErr>
     ensures ok { IfOk result (λ t. t ≡ applied span name (arg ∷ [])) }
     ensures err { IfErr result (λ e. e ≡ ParseErr.NoMemory) }
 {

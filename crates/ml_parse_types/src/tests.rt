@@ -27,7 +27,10 @@ const TYPES: [Case; 44] = [
     ("(int)", "t1-4:1-4()"),
     ("(int) list", "t0-10:6-10(t1-4:1-4())"),
     ("('a, int) pair", "t0-14:10-14('1-3 t5-8:5-8())"),
-    ("('a, 'b, 'c) t u", "t0-16:15-16(t0-14:13-14('1-3 '5-7 '9-11))"),
+    (
+        "('a, 'b, 'c) t u",
+        "t0-16:15-16(t0-14:13-14('1-3 '5-7 '9-11))",
+    ),
     ("int * char", "*0-10(t0-3:0-3() t6-10:6-10())"),
     ("'a * 'b * 'c", "*0-12('0-2 '5-7 '10-12)"),
     ("('a * 'b) * 'c", "*0-14(*1-8('1-3 '6-8) '12-14)"),
@@ -37,7 +40,10 @@ const TYPES: [Case; 44] = [
     ("'a -> 'b", ">0-8('0-2, '6-8)"),
     ("'a -> 'b -> 'c", ">0-14('0-2, >6-14('6-8, '12-14))"),
     ("('a -> 'b) -> 'c", ">0-16(>1-9('1-3, '7-9), '14-16)"),
-    ("'a * 'b -> 'c * 'd", ">0-18(*0-7('0-2 '5-7), *11-18('11-13 '16-18))"),
+    (
+        "'a * 'b -> 'c * 'd",
+        ">0-18(*0-7('0-2 '5-7), *11-18('11-13 '16-18))",
+    ),
     ("('a -> 'b) list", "t0-15:11-15(>1-9('1-3, '7-9))"),
     ("('a -> 'b, 'c) t", "t0-16:15-16(>1-9('1-3, '7-9) '11-13)"),
     ("local_ 'a -> 'b", ">0-15(local '7-9, '13-15)"),
@@ -85,18 +91,15 @@ const DECLS: [Case; 32] = [
     ("t = int", "t 0-1 = t4-7:4-7()"),
     ("'a t = 'a list", "t 3-4 '0-2 = t7-14:10-14('7-9)"),
     ("('a) t = 'a", "t 5-6 '1-3 = '9-11"),
-    ("('a, 'b) t = 'a * 'b", "t 9-10 '1-3 '5-7 = *13-20('13-15 '18-20)"),
+    (
+        "('a, 'b) t = 'a * 'b",
+        "t 9-10 '1-3 '5-7 = *13-20('13-15 '18-20)",
+    ),
     ("t = A", "t 0-1 = |A 4-5"),
     ("t = | A", "t 0-1 = |A 6-7"),
     ("t = A | B of int", "t 0-1 = |A 4-5 |A 8-9 t13-16:13-16()"),
-    (
-        "t = A of 'a * 'b",
-        "t 0-1 = |A 4-5 '9-11 '14-16",
-    ),
-    (
-        "t = A of ('a * 'b)",
-        "t 0-1 = |A 4-5 *10-17('10-12 '15-17)",
-    ),
+    ("t = A of 'a * 'b", "t 0-1 = |A 4-5 '9-11 '14-16"),
+    ("t = A of ('a * 'b)", "t 0-1 = |A 4-5 *10-17('10-12 '15-17)"),
     (
         "t = A of local_ 'a -> 'b",
         "t 0-1 = |A 4-5 local >16-24('16-18, '22-24)",
@@ -123,7 +126,10 @@ const DECLS: [Case; 32] = [
         "t = {a : local_ 'a -> 'b}",
         "t 0-1 = .5-6 >9-24(local '16-18, '22-24)",
     ),
-    ("t = u and 'a v = {shared_ a : 'a;}", "t 0-1 = t4-5:4-5(); t 13-14 '10-12 = .26-27 shared '30-32"),
+    (
+        "t = u and 'a v = {shared_ a : 'a;}",
+        "t 0-1 = t4-5:4-5(); t 13-14 '10-12 = .26-27 shared '30-32",
+    ),
     ("t = int let", "t 0-1 = t4-7:4-7() then 8"),
     ("t = A let", "t 0-1 = |A 4-5 then 6"),
     ("t = |", "rule 10 5-5"),
@@ -199,14 +205,14 @@ fn put_type(out: &mut String, ty: &TyExpr) -> Result<(), AllocError> {
 
 #[cycle(show)]
 fn put_types(out: &mut String, list: &[TyExpr]) -> Result<(), AllocError> {
-    let mut before = "(";
+    out.push_str("(")?;
+    let mut first = true;
     for ty in list {
-        out.push_str(before)?;
+        if !first {
+            out.push_str(" ")?;
+        }
+        first = false;
         put_type(out, ty)?;
-        before = " ";
-    }
-    if list.is_empty() {
-        out.push_str(before)?;
     }
     out.push_str(")")
 }
@@ -291,7 +297,9 @@ fn put_rest(out: &mut String, tokens: &[Token], at: usize) -> Result<(), AllocEr
 fn tokens_of(alloc: Global, text: &str) -> Result<Items<Token>, Fail> {
     let bytes = text.as_bytes();
     let end = u32::try_from(bytes.len()).ok().ok_or("long")?;
-    let tokens = lex(alloc, bytes, Span { start: 0, end }).ok().ok_or("no tokens")?;
+    let tokens = lex(alloc, bytes, Span { start: 0, end })
+        .ok()
+        .ok_or("no tokens")?;
     Ok(tokens)
 }
 
@@ -315,11 +323,13 @@ fn decls_answer(alloc: Global, text: &str) -> Result<String, Fail> {
     let mut at = 0;
     match read_decls(alloc, tokens.as_slice(), &mut at) {
         Ok(list) => {
-            let mut before = "";
+            let mut first = true;
             for decl in list.as_slice() {
-                out.push_str(before)?;
+                if !first {
+                    out.push_str("; ")?;
+                }
+                first = false;
                 put_decl(&mut out, decl)?;
-                before = "; ";
             }
             put_rest(&mut out, tokens.as_slice(), at)?;
         }

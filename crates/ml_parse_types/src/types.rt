@@ -39,6 +39,12 @@ struct ListFound {
     depth: u32,
 }
 
+fn deepest(one: u32, other: u32) -> u32
+    ensures { result ≡ max one other }
+{
+    one.max(other)
+}
+
 /// The type variable at a place.
 #[tactic(auto, using(crate::proofs::TypeParts::a_lone_variable))]
 fn variable(tokens: &[Token], at: &mut usize) -> TypeFound
@@ -209,7 +215,7 @@ fn arrow(
     ensures depth { IfOk result (λ s. s.depth ≡ suc (max from.depth to.depth)) }
     ensures err { IfErr result (λ e. e ≡ ParseErr.NoMemory) }
 {
-    let depth = from.depth.max(to.depth) + 1;
+    let depth = deepest(from.depth, to.depth) + 1;
     let ty = make_arrow(alloc, span, make_arg(words, from.ty), to.arg)?;
     Ok(SideFound {
         arg: make_arg(no_words(), ty),
@@ -218,6 +224,7 @@ fn arrow(
 }
 
 #[cycle(types)]
+#[tactic(auto, using(crate::proofs::TypeParts::atom_zero, crate::proofs::TypeParts::atom_by, crate::proofs::TypeParts::atom_grouped, crate::proofs::TypeParts::atom_no_group, crate::proofs::TypeParts::atom_other))]
 fn read_atom(
     alloc: Global,
     tokens: &[Token],
@@ -240,6 +247,7 @@ fn read_atom(
 }
 
 #[cycle(types)]
+#[tactic(auto, using(crate::proofs::TypeParts::group_read, crate::proofs::TypeParts::group_no_list, crate::proofs::TypeParts::group_no_name))]
 fn read_group(
     alloc: Global,
     tokens: &[Token],
@@ -258,6 +266,7 @@ fn read_group(
 }
 
 #[cycle(types)]
+#[tactic(auto, using(crate::proofs::TypeParts::operand_read, crate::proofs::TypeParts::operand_no_atom, crate::proofs::TypeParts::operand_no_names))]
 fn read_operand(
     alloc: Global,
     tokens: &[Token],
@@ -274,6 +283,7 @@ fn read_operand(
 }
 
 #[cycle(types)]
+#[tactic(auto, using(crate::proofs::TypeParts::part_alone, crate::proofs::TypeParts::part_factor, crate::proofs::TypeParts::part_argument, crate::proofs::TypeParts::no_alone, crate::proofs::TypeParts::no_factor, crate::proofs::TypeParts::no_argument))]
 fn read_part(
     alloc: Global,
     tokens: &[Token],
@@ -293,6 +303,7 @@ fn read_part(
 }
 
 #[cycle(types)]
+#[tactic(auto, using(crate::proofs::TypeLists::row_none, crate::proofs::TypeLists::row_more, crate::proofs::TypeLists::row_end, crate::proofs::TypeLists::row_shorter, crate::proofs::TypeLists::row_small))]
 fn read_list(
     alloc: Global,
     tokens: &[Token],
@@ -308,7 +319,7 @@ fn read_list(
     let mut depth = 0;
     'parts: loop {
         let found = read_part(alloc, tokens, at, row, left)?;
-        depth = depth.max(found.depth);
+        depth = deepest(depth, found.depth);
         list.push(found.ty)?;
         match behind_part(row, tokens, *at) {
             After::Goes => pass(tokens, at),
@@ -322,6 +333,7 @@ fn read_list(
 }
 
 #[cycle(types)]
+#[tactic(auto, using(crate::proofs::TypeParts::side_read))]
 fn read_side(
     alloc: Global,
     tokens: &[Token],
@@ -343,6 +355,7 @@ fn read_side(
 
 /// What goes on behind the words and the product that a side begins with.
 #[cycle(types)]
+#[tactic(auto, using(crate::proofs::TypeParts::arrow_none, crate::proofs::TypeParts::arrow_deep, crate::proofs::TypeParts::arrow_read))]
 fn read_arrow(
     alloc: Global,
     tokens: &[Token],
@@ -374,6 +387,7 @@ fn read_arrow(
 
 /// A type: a side without words of its own.
 #[cycle(types)]
+#[tactic(auto, using(crate::proofs::TypeParts::whole_read, crate::proofs::TypeParts::whole_worded, crate::proofs::TypeParts::whole_no_side))]
 fn read_whole(
     alloc: Global,
     tokens: &[Token],
@@ -394,6 +408,7 @@ fn read_whole(
 }
 
 /// The type at a place, which goes past it.
+#[tactic(auto, using(crate::proofs::TypeParts::type_read, crate::proofs::TypeParts::type_none))]
 pub fn read_type(
     alloc: Global,
     tokens: &[Token],

@@ -1,0 +1,4 @@
+//! The cursor on small texts.
+
+mod calls;
+mod lets;
