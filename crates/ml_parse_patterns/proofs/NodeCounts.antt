@@ -29,7 +29,6 @@ use Rattle.ml_parse_patterns.specs.declared.looks.ParamLead.{ParamLead}
 use Rattle.ml_parse_patterns.specs.Looks.{node, leaf_kind, lead, param_lead}
 use Rattle.ml_parse_patterns.specs.Patterns.{ReadsNames, no_name, one_name, ReadsSimple, leaf, name, quoted, paren, typed, bracket, brace, Reads, simple, bare, applied, no_cons, cons, no_tuple, tuple, either, whole, ReadsOthers, no_other, one_other, ReadsList, last_one, one_more, ReadsField, pun, field, ReadsFields, last_field, next_field, ReadsParamBy, short, parens, annotated, ReadsParams, last_param, next_param}
 
-
 -- the nodes of a kind, by its parts
 kind_at : (l : PatKind-F PatKind FieldPat Pat) (k : PatKind) → roll-PatKind l ≡ k → pattern_kind_nodes k ≡ pattern_step (map-PatKind PatKind FieldPat Pat ℕ ℕ ℕ pattern_kind_nodes field_pattern_nodes pattern_nodes l)
 kind_at l k e = ap pattern_kind_nodes (sym e) ∙ fold-roll-PatKind ℕ ℕ ℕ pattern_step field_pattern_node pattern_node l
