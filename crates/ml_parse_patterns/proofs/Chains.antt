@@ -1,5 +1,5 @@
 -- Alternatives and names that are joined one by one.
-use Rattle.std.proofs.Common.{◌≡◌, ◌≢◌, ℕ, ◌+◌, ◌-◌, ◌≤◌, ◌<◌, max, List, [], ◌∷◌, drop, refl, sym, ap, ◌∙◌, subst, arith}
+use Rattle.std.proofs.Common.{◌≡◌, ◌≢◌, ℕ, ◌+◌, ◌-◌, ◌≤◌, ◌<◌, max, List, [], ◌∷◌, drop, length, refl, sym, ap, ◌∙◌, subst, arith}
 use Rattle.ml_lexer.specs.declared.token.Token.{Token}
 use Rattle.ml_tree.specs.declared.pattern.Pat.{Pat}
 use Rattle.ml_tree.specs.declared.pattern.PatKind.TheVariants as Kind
@@ -12,6 +12,8 @@ use Rattle.ml_parse_patterns.specs.Looks.{node}
 use Rattle.ml_parse_patterns.specs.Patterns.{ReadsNames, no_name, one_name, Reads, ReadsOthers, no_other, one_other}
 use Rattle.ml_parse_patterns.specs.Readings.{IsNode, IsFound, NoTree, HasName, HasNames, NoNames, HasOther, HasOthers, NoOthers}
 use Rattle.ml_parse_patterns.proofs.Depths.{others_deeper, names_deeper}
+use Rattle.ml_parse_types.proofs.Shorter.{length-drop}
+use Rattle.ml_parse_patterns.proofs.Shorter.{shorter}
 use Rattle.ml_parse_patterns.proofs.Unique.{Same, same, moved}
 
 -- one name more
@@ -130,3 +132,18 @@ others_end text n start here now first f s m = record { reads = s.forth _ _ _ (n
 
 pub others_refused : (text : List ℕ) (n : ℕ) (start here now : List Token) (first f : Found) → OthersSoFar text n start here first now f → NoOthers text n start now f → NoOthers text n start here first
 others_refused text n start here now first f s h = record { deep = λ p d r a. h.deep p d r (s.back p d r a) }
+
+-- a name takes two tokens
+as_some : (ts us : List Token) → front ts ≡ Front.As → us ≡ drop 2 ts → length us < length ts
+as_some [] us h e = absurd (cc)
+as_some (t ∷ ts) us h e = omega (arith, ap length e, length-drop 1 ts)
+
+pub name_shorter : (n : ℕ) (start here rest : List Token) (first f : Found) → front here ≡ Front.As → HasName n start here rest first f → length rest < length here
+name_shorter n start here rest first f e h = as_some here rest e h.rest_is
+
+bar_some : (ts : List Token) → front ts ≡ Front.Bar → length (drop 1 ts) < length ts
+bar_some [] h = absurd (cc)
+bar_some (t ∷ ts) h = omega arith
+
+pub other_shorter : (text : List ℕ) (n : ℕ) (start here rest : List Token) (first f : Found) → front here ≡ Front.Bar → HasOther text n start here rest first f → length rest < length here
+other_shorter text n start here rest first f e h = omega (arith, bar_some here e, shorter h.reads)

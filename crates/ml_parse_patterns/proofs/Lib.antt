@@ -1,10 +1,13 @@
-mod Chains
-mod Depths
-mod Founds
-mod ListReadings
-mod ParamReadings
-mod Places
-mod Refusals
-mod Shorter
-mod TextTokens
-mod Unique
+pub mod Chains
+pub mod Depths
+pub mod Exits
+pub mod Founds
+pub mod ListReadings
+pub mod NodeCounts
+pub mod ParamReadings
+pub mod Places
+pub mod Refusals
+pub mod Relays
+pub mod Shorter
+pub mod TextTokens
+pub mod Unique

@@ -50,17 +50,17 @@ goes_on {E = E} R n start before depth now next list deepest d x s t le = record
   list_is = one_more_element list before s.done x s.list_is;
   small = (let h = s.small in omega arith);
   forth = λ ps e r a. (
-    let g = s.forth (x ∷ ps) (max d e) r (t.forth ps e r a) in
-    let f : ℕ = g.0 in
-    let moved : R start ((s.done ++ x ∷ []) ++ ps) f r = subst (λ l. R start l f r) (sym (append_assoc s.done (x ∷ []) ps)) g.1.0 in
-    let same : max depth f ≡ max deepest (max d e) = g.1.1 in
-    (f, (moved, omega arith)));
+      let g = s.forth (x ∷ ps) (max d e) r (t.forth ps e r a) in
+      let f : ℕ = g.0 in
+      let moved : R start ((s.done ++ x ∷ []) ++ ps) f r = subst (λ l. R start l f r) (sym (append_assoc s.done (x ∷ []) ps)) g.1.0 in
+      let same : max depth f ≡ max deepest (max d e) = g.1.1 in
+      (f, (moved, omega arith)));
   back = λ ps e r a. (
-    let g = s.back ps e r a in
-    let h = t.back g.0 g.1.0 r g.1.1.0 in
-    let le1 : g.1.0 ≤ e = g.1.1.1 in
-    let le2 : h.1.0 ≤ g.1.0 = h.1.1.1 in
-    (h.0, (h.1.0, (h.1.1.0, omega arith))));
+      let g = s.back ps e r a in
+      let h = t.back g.0 g.1.0 r g.1.1.0 in
+      let le1 : g.1.0 ≤ e = g.1.1.1 in
+      let le2 : h.1.0 ≤ g.1.0 = h.1.1.1 in
+      (h.0, (h.1.0, (h.1.1.0, omega arith))));
 }
 
 -- what is read where the last element is
@@ -122,8 +122,8 @@ pub list_step : (text : List ℕ) (k : Listing) (n m : ℕ) (now us next : List 
 list_step text k n m now us next f b g h = record {
   forth = λ ps e r a. one_more b.reads g (subst (λ (x : List Token). ReadsList text k x ps e r) h a);
   back = λ ps e r a. (
-    let o = list_back b.reads g ps e a in
-    (o.0, (o.1.0, (subst (λ (x : List Token). ReadsList text k x o.0 o.1.0 r) (sym h) o.1.1.0, o.1.1.1))));
+      let o = list_back b.reads g ps e a in
+      (o.0, (o.1.0, (subst (λ (x : List Token). ReadsList text k x o.0 o.1.0 r) (sym h) o.1.1.0, o.1.1.1))));
 }
 
 pub list_last : (text : List ℕ) (k : Listing) (n m : ℕ) (now us r : List Token) (f : Found) → IsFound text (level_of k) n now us f → after k us ≡ Stops m → r ≡ drop m us → ReadsList text k now (f.pat ∷ []) f.depth r
@@ -164,8 +164,8 @@ pub field_step : (text : List ℕ) (n : ℕ) (now us next : List Token) (f : Fou
 field_step text n now us next f b g h = record {
   forth = λ ps e r a. next_field b.reads g (subst (λ (x : List Token). ReadsFields text x ps r.0 e r.1) h a);
   back = λ ps e r a. (
-    let o = fields_back b.reads g ps e a in
-    (o.0, (o.1.0, (subst (λ (x : List Token). ReadsFields text x o.0 r.0 o.1.0 r.1) (sym h) o.1.1.0, o.1.1.1))));
+      let o = fields_back b.reads g ps e a in
+      (o.0, (o.1.0, (subst (λ (x : List Token). ReadsFields text x o.0 r.0 o.1.0 r.1) (sym h) o.1.1.0, o.1.1.1))));
 }
 
 fields_first : {text : List ℕ} {n : ℕ} {now r : List Token} {more : Bool} {ps : List FieldPat} {d : ℕ} → NoField text n now → ReadsFields text now ps more d r → n < d

@@ -69,7 +69,7 @@ pub pun_found : (text : List ℕ) (n : ℕ) (ts us : List Token) (f : FoundField
 pun_found text n ts us f l e m le t d =
     let other : front (drop 1 ts) ≢ Front.Equal = (λ g. m (ap front e ∙ g)) in
     let one : ReadsField text ts (a_field (first_span ts) (node ts us (leaf_kind (Bound (first_span ts))))) 1 us =
-        subst (λ (x : List Token). ReadsField text ts (a_field (first_span ts) (node ts x (leaf_kind (Bound (first_span ts))))) 1 x) (sym e) (pun l other) in
+    subst (λ (x : List Token). ReadsField text ts (a_field (first_span ts) (node ts x (leaf_kind (Bound (first_span ts))))) 1 x) (sym e) (pun l other) in
     record {
       reads = subst (λ (i : ℕ). ReadsField text ts f.field i us) (sym d) (subst (λ (x : FieldPat). ReadsField text ts x 1 us) (sym t) one);
       small = omega arith;
@@ -109,9 +109,11 @@ wider_param le h = record { reads = h.reads; small = (let s = h.small in omega a
 
 -- a parameter in parentheses
 pub param_words : (text : List ℕ) (n : ℕ) (ts hs : List Token) → param_lead ts ≡ Parens → hs ≡ drop 1 ts → IsNone ReadsWords hs → NoParam text n ts
-param_words text n ts hs e h b = record { deep = λ p d r a. (
-    let none : IsNone ReadsWords (drop 1 ts) = subst (λ (x : List Token). IsNone ReadsWords x) h b in
-    absurd (no_words_read none (by_param_lead e a))) }
+param_words text n ts hs e h b = record {
+  deep = λ p d r a. (
+      let none : IsNone ReadsWords (drop 1 ts) = subst (λ (x : List Token). IsNone ReadsWords x) h b in
+      absurd (no_words_read none (by_param_lead e a)));
+}
   where
     no_words_read : {text : List ℕ} {ts r : List Token} {p : Param} {d : ℕ} → IsNone ReadsWords (drop 1 ts) → ReadsParamBy text Parens ts p d r → ⊥
     no_words_read b (parens w a f) = b.none _ w
@@ -179,3 +181,6 @@ typed_found text n k tokens ts hs us vs r w q o f e h v b lt c y t d =
       reads = param_made tree (d ∙ y.node_is.depth_is) y.reads.rest_is (by_its_lead e (annotated words b.reads c y.reads.reads y.reads.closes));
       small = (let s = y.node_is.depth_is in omega arith);
     }
+
+pub no_param_left : (text : List ℕ) (n : ℕ) (ts : List Token) → n ≡ 0 → NoParam text n ts
+no_param_left text n ts e = subst (λ (i : ℕ). NoParam text i ts) (sym e) (no_param_depth text ts)

@@ -19,7 +19,7 @@ use Rattle.ml_parse_patterns.specs.declared.looks.ParamLead.TheVariants.{Short}
 use Rattle.ml_parse_patterns.specs.Looks.{lead, lead_by, minus_by, paren_by, bracket_by, param_lead, param_lead_by, parens_by}
 use Rattle.ml_parse_patterns.specs.Patterns.{ReadsNames, no_name, one_name, ReadsSimple, leaf, name, quoted, paren, typed, bracket, brace, Reads, simple, bare, applied, no_cons, cons, no_tuple, tuple, either, whole, ReadsOthers, no_other, one_other, ReadsList, last_one, one_more, ReadsField, pun, field, ReadsFields, last_field, next_field, ReadsParamBy, short, parens, annotated, ReadsParams, last_param, next_param}
 
-lower_some : (ts : List Token) → front ts ≡ Front.Lower → length (drop 1 ts) < length ts
+pub lower_some : (ts : List Token) → front ts ≡ Front.Lower → length (drop 1 ts) < length ts
 lower_some [] h = absurd (cc)
 lower_some (t ∷ ts) h = omega arith
 
@@ -42,7 +42,7 @@ lead_width Front.OpenParen ts l h = paren_width (front (drop 1 ts)) l h
 lead_width Front.OpenBracket ts l h = bracket_width (front (drop 1 ts)) l h
 lead_width _ ts l h = cc
 
-leaf_shorter : (ts : List Token) (l : Leaf) (n : ℕ) → Whole l n ≡ lead ts → length (drop n ts) < length ts
+pub leaf_shorter : (ts : List Token) (l : Leaf) (n : ℕ) → Whole l n ≡ lead ts → length (drop n ts) < length ts
 unfolding lead
 leaf_shorter [] l n h = absurd (cc)
 leaf_shorter (t ∷ ts) l zero h = absurd (lead_width (front (t ∷ ts)) (t ∷ ts) l (sym h))
@@ -56,13 +56,13 @@ param_width : (f : Front) (ts : List Token) (l : Leaf) → param_lead_by f ts �
 param_width Front.OpenParen ts l h = open_width (front (drop 1 ts)) l h
 param_width _ ts l h = cc
 
-short_shorter : (ts : List Token) (l : Leaf) (n : ℕ) → Short l n ≡ param_lead ts → length (drop n ts) < length ts
+pub short_shorter : (ts : List Token) (l : Leaf) (n : ℕ) → Short l n ≡ param_lead ts → length (drop n ts) < length ts
 unfolding param_lead
 short_shorter [] l n h = absurd (cc)
 short_shorter (t ∷ ts) l zero h = absurd (param_width (front (t ∷ ts)) (t ∷ ts) l (sym h))
 short_shorter (t ∷ ts) l (suc n) h = omega (arith, length-drop n ts)
 
-token_some : (ts : List Token) (t : Token) → slice_get ts 0 ≡ Some t → length (drop 1 ts) < length ts
+pub token_some : (ts : List Token) (t : Token) → slice_get ts 0 ≡ Some t → length (drop 1 ts) < length ts
 token_some [] t h = absurd (cc)
 token_some (u ∷ ts) t h = omega arith
 
@@ -104,7 +104,7 @@ mutual
   field_shorter (pun {ts = ts} l n) = lower_some ts l
   field_shorter (field {ts = ts} l e a) = omega (arith, shorter a, length-drop 2 ts)
 
-  fields_shorter : {text : List ℕ} {ts r : List Token} {fs : List FieldPat} {more : Bool} {d : ℕ} → ReadsFields text ts fs more d r → length r < length ts
+  pub fields_shorter : {text : List ℕ} {ts r : List Token} {fs : List FieldPat} {more : Bool} {d : ℕ} → ReadsFields text ts fs more d r → length r < length ts
   fields_shorter (last_field {n = n} {us = us} a f) = omega (arith, field_shorter a, length-drop n us)
   fields_shorter (next_field {us = us} a f c) = omega (arith, field_shorter a, fields_shorter c, length-drop 1 us)
 

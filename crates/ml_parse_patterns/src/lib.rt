@@ -2,12 +2,15 @@
 #![tactic(auto)]
 
 mod found;
+pub mod laws;
 mod levels;
 mod lists;
 mod looks;
 mod nodes;
 mod params;
 mod simple;
+#[cfg(test)]
+mod tests;
 
 pub use found::{Found, FoundParam, FoundParams};
 pub use levels::read_pattern;

@@ -10,7 +10,7 @@ use crate::levels::read_pattern;
 use crate::looks::{Leaf, ParamLead, begins_param, param_lead_at, pass_all};
 use crate::nodes::{give_up, leaf_kind, node, typed};
 use crate::simple::read_annotation;
-use ml_cursor::{Front, ParseErr, front_at, pass, refusal_at};
+use ml_cursor::{Front, ParseErr, pass, refusal_at, stands};
 use ml_lexer::Token;
 use ml_parse_types::{no_words, read_words};
 use ml_tree::{Param, Words};
@@ -48,7 +48,13 @@ fn found(words: Words, read: Found) -> FoundParam
 }
 
 /// Reads the type and the `)` behind a pattern which begins at `from`; the node ends with the type.
-fn add_type(alloc: Global, tokens: &[Token], at: &mut usize, from: usize, inner: Found) -> Result<Found, ParseErr>
+fn add_type(
+    alloc: Global,
+    tokens: &[Token],
+    at: &mut usize,
+    from: usize,
+    inner: Found,
+) -> Result<Found, ParseErr>
     requires { inner.depth + 1 < 2 ^ 32 }
     ensures ok { IfOk result (HasType tokens.now (drop from tokens.now) (drop at.old tokens.now) (drop at.new tokens.now) inner) }
     ensures err { IfErr result (Says tokens.now (NoAnnotation (drop at.old tokens.now))) }
@@ -74,19 +80,19 @@ fn read_parens(
     let words = read_words(tokens, at)?;
     let from = *at;
     let inner = read_pattern(alloc, text, tokens, at, left)?;
-    match front_at(tokens, *at) {
-        Front::CloseParen => {
-            pass(tokens, at);
-            Ok(found(words, inner))
-        }
-        Front::Colon => {
-            if inner.depth >= left {
-                return Err(ParseErr::Refused(give_up(tokens, *at, inner)));
-            }
-            Ok(found(words, add_type(alloc, tokens, at, from, inner)?))
-        }
-        _ => Err(ParseErr::Refused(give_up(tokens, *at, inner))),
+    let closes = stands(tokens, *at, Front::CloseParen);
+    if closes {
+        pass(tokens, at);
+        return Ok(found(words, inner));
     }
+    let goes_on = stands(tokens, *at, Front::Colon);
+    if !goes_on {
+        return Err(ParseErr::Refused(give_up(tokens, *at, inner)));
+    }
+    if inner.depth >= left {
+        return Err(ParseErr::Refused(give_up(tokens, *at, inner)));
+    }
+    Ok(found(words, add_type(alloc, tokens, at, from, inner)?))
 }
 
 /// Reads the parameter at a place, whose pattern may be as deep as `left`.

@@ -11,7 +11,7 @@ use crate::levels::read_pattern;
 use crate::lists::{read_fields, read_list};
 use crate::looks::{Lead, Leaf, Listing, applies_at, lead_at, pass_all};
 use crate::nodes::{applied, give_up, leaf_kind, node, paren, typed};
-use ml_cursor::{Front, ParseErr, front_at, pass, refusal_at, span_at, take};
+use ml_cursor::{Front, ParseErr, pass, refusal_at, span_at, stands, take};
 use ml_lexer::{Token, text_bytes};
 use ml_parse_types::{Row, read_type, read_words};
 use ml_tree::PatKind;
@@ -107,17 +107,17 @@ fn read_parens(
     let from = *at;
     pass(tokens, at);
     let inner = read_pattern(alloc, text, tokens, at, below)?;
-    match front_at(tokens, *at) {
-        Front::CloseParen => {
-            pass(tokens, at);
-            Ok(paren(alloc, tokens, from, *at, inner)?)
-        }
-        Front::Colon => {
-            let read = read_annotation(alloc, tokens, at)?;
-            Ok(typed(alloc, tokens, from, *at, inner, read.ty)?)
-        }
-        _ => Err(ParseErr::Refused(give_up(tokens, *at, inner))),
+    let closes = stands(tokens, *at, Front::CloseParen);
+    if closes {
+        pass(tokens, at);
+        return Ok(paren(alloc, tokens, from, *at, inner)?);
     }
+    let goes_on = stands(tokens, *at, Front::Colon);
+    if !goes_on {
+        return Err(ParseErr::Refused(give_up(tokens, *at, inner)));
+    }
+    let read = read_annotation(alloc, tokens, at)?;
+    Ok(typed(alloc, tokens, from, *at, inner, read.ty)?)
 }
 
 /// Reads a list of at least one element, each as deep as `below` at most.
