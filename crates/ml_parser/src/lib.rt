@@ -25,8 +25,6 @@ mod record;
 mod simple;
 mod source;
 mod target;
-#[cfg(test)]
-mod tests;
 
 pub use forms::Borrowed;
 pub use found::Found;

@@ -1,5 +1,6 @@
-ghost use Rattle.std.specs.Prelude.{◌≡◌, drop, Some};
-ghost use Rattle.ml_parser.specs.Looks.{binary, operator, of_level, operator_at, groups_left};
+ghost use Rattle.std.specs.Prelude.{◌≡◌, ◌==◌, drop, if◌then◌else◌, Some, None, IfSome, IfNone};
+ghost use Rattle.ml_parser.specs.declared.looks.Joint.{Joint};
+ghost use Rattle.ml_parser.specs.Looks.{operator, operator_at, groups_left};
 
 use crate::looks::Joint;
 use ml_cursor::{Front, front_at, pass};
@@ -29,7 +30,7 @@ pub fn groups_left(level: u8) -> bool
 }
 
 fn binary(level: u8, op: BinOp) -> Option<Operator>
-    ensures { result ≡ binary level op }
+    ensures { result ≡ Some (record { level = level; joint = Joint.Binary op }) }
 {
     Some(Operator {
         level,
@@ -39,7 +40,8 @@ fn binary(level: u8, op: BinOp) -> Option<Operator>
 
 /// The operator with this sign or word.
 pub fn operator_of(front: Front) -> Option<Operator>
-    ensures { result ≡ operator front }
+    ensures some { IfSome result (λ o. operator front ≡ Some (record { level = o.level; joint = o.joint })) }
+    ensures none { IfNone result (operator front ≡ None) }
 {
     match front {
         Front::Lsl => binary(1, BinOp::Lsl),
@@ -73,7 +75,7 @@ pub fn operator_of(front: Front) -> Option<Operator>
 
 /// What an operator makes of its operands, if it is of this level.
 fn of_level(level: u8, found: Operator) -> Option<Joint>
-    ensures { result ≡ of_level level (Some found) }
+    ensures { result ≡ (if found.level == level then Some found.joint else None) }
 {
     if found.level == level {
         return Some(found.joint);
