@@ -4,7 +4,7 @@ ghost use Rattle.ml_lexer.specs.Tokens.{IsSound};
 ghost use Rattle.ml_parser.specs.Refusals.{IsRefused};
 
 use crate::expression::{read_parts, read_until};
-use crate::found::{Found, expect, just, no_parts, nothing, pair, with_part, give_up};
+use crate::found::{Found, expect, give_up, just, no_parts, nothing, pair, with_part};
 use crate::looks::ListKind;
 use crate::parts::arm;
 use crate::source::Source;

@@ -65,7 +65,11 @@ fn atom_by(first: Front, second: Front, third: Front) -> AtomLead
 pub fn atom_at(tokens: &[Token], at: usize) -> AtomLead
     ensures { result ≡ atom_lead (drop at tokens.now) }
 {
-    atom_by(front_at(tokens, at), second_at(tokens, at), third_at(tokens, at))
+    atom_by(
+        front_at(tokens, at),
+        second_at(tokens, at),
+        third_at(tokens, at),
+    )
 }
 
 /// Whether an atom begins with this.

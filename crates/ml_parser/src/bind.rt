@@ -4,7 +4,7 @@ ghost use Rattle.ml_lexer.specs.Tokens.{IsSound};
 ghost use Rattle.ml_parser.specs.Refusals.{IsRefused};
 
 use crate::expression::read_parts;
-use crate::found::{Found, no_parts, with_part, give_up};
+use crate::found::{Found, give_up, no_parts, with_part};
 use crate::looks::ListKind;
 use crate::parts::{bind, value};
 use crate::source::Source;

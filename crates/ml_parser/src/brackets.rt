@@ -7,8 +7,8 @@ ghost use Rattle.ml_cursor.specs.Places.{first_span};
 ghost use Rattle.ml_parser.specs.Trees.{node, start_of};
 ghost use Rattle.ml_parser.specs.Refusals.{IsRefused};
 
-use crate::target::read_whole_type;
 use crate::found::{Found, Head, deeper, expect, joined, node};
+use crate::target::read_whole_type;
 use ml_cursor::{Front, ParseErr, stands};
 use ml_lexer::Token;
 use ml_tree::{Expr, ExprKind, FieldExpr};
@@ -74,7 +74,11 @@ pub fn close_list(
     ensures err { IfErr result (IsRefused tokens.now) }
 {
     let close = expect(tokens, at, Front::CloseBracket)?;
-    Ok(node(joined(head.span, close), ExprKind::List(list.tree), list.depth))
+    Ok(node(
+        joined(head.span, close),
+        ExprKind::List(list.tree),
+        list.depth,
+    ))
 }
 
 /// `{f = e; ..}`, whose `}` stands at the place.
@@ -92,7 +96,11 @@ pub fn close_record(
     ensures err { IfErr result (IsRefused tokens.now) }
 {
     let close = expect(tokens, at, Front::CloseBrace)?;
-    Ok(node(joined(head.span, close), ExprKind::Fields(fields.tree), fields.depth))
+    Ok(node(
+        joined(head.span, close),
+        ExprKind::Fields(fields.tree),
+        fields.depth,
+    ))
 }
 
 /// `(e)` or `begin e end`, whose end stands at the place.

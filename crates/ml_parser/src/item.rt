@@ -55,11 +55,7 @@ fn read_let_item(alloc: Global, source: &Source, at: &mut usize) -> Result<Item,
 
 /// `decl (and decl)*`
 #[tactic(auto, using(crate::proofs::Refused::refused))]
-fn read_all_decls(
-    alloc: Global,
-    tokens: &[Token],
-    at: &mut usize,
-) -> Result<Items<Decl>, ParseErr>
+fn read_all_decls(alloc: Global, tokens: &[Token], at: &mut usize) -> Result<Items<Decl>, ParseErr>
     ensures err { IfErr result (IsRefused tokens.now) }
 {
     match read_decls(alloc, tokens, at) {

@@ -7,7 +7,7 @@ ghost use Rattle.ml_parser.specs.Refusals.{IsRefused};
 
 use crate::begins::{begins_atom, begins_expression, second_at};
 use crate::expression::read_part;
-use crate::found::{Found, no_parts, with_part, give_up};
+use crate::found::{Found, give_up, no_parts, with_part};
 use crate::looks::ListKind;
 use crate::operators::operator_of;
 use crate::source::Source;

@@ -25,11 +25,7 @@ fn end_of_last(list: &[Expr]) -> u32
 }
 
 /// A list whose first stands before the others.
-fn with_first(
-    alloc: Global,
-    first: Expr,
-    others: Items<Expr>,
-) -> Result<Items<Expr>, ParseErr>
+fn with_first(alloc: Global, first: Expr, others: Items<Expr>) -> Result<Items<Expr>, ParseErr>
     ensures ok { IfOk result (λ list. list ≡ first ∷ others) }
     ensures err { IfErr result (λ e. e ≡ ParseErr.NoMemory) }
 {

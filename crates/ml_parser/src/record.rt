@@ -5,7 +5,7 @@ ghost use Rattle.ml_parser.specs.Looks.{begins_field, behind_semi};
 ghost use Rattle.ml_parser.specs.Refusals.{IsRefused};
 
 use crate::expression::read_parts;
-use crate::found::{Found, expect, no_parts, with_part, give_up};
+use crate::found::{Found, expect, give_up, no_parts, with_part};
 use crate::looks::ListKind;
 use crate::parts::{field, pun};
 use crate::source::Source;

@@ -119,11 +119,7 @@ pub fn read_target(
 
 /// A type.
 #[tactic(auto, using(crate::proofs::Refused::refused))]
-pub fn read_whole_type(
-    alloc: Global,
-    tokens: &[Token],
-    at: &mut usize,
-) -> Result<TyExpr, ParseErr>
+pub fn read_whole_type(alloc: Global, tokens: &[Token], at: &mut usize) -> Result<TyExpr, ParseErr>
     ensures err { IfErr result (IsRefused tokens.now) }
 {
     match read_type(alloc, tokens, at, Row::Factors) {

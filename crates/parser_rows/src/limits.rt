@@ -44,7 +44,13 @@ fn refused_by(alloc: Global, text: &[u8]) -> Result<u8, &'static str> {
 
 /// A kind of nesting: what stands before it, its opening, its middle, its closing, and the greatest
 /// number of openings.
-type Nesting = (&'static str, &'static str, &'static str, &'static str, usize);
+type Nesting = (
+    &'static str,
+    &'static str,
+    &'static str,
+    &'static str,
+    usize,
+);
 
 const NESTINGS: [Nesting; 14] = [
     ("let () = ", "(", "()", ")", 999),

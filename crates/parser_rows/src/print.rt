@@ -160,8 +160,14 @@ fn pattern_kind(page: &mut Page, kind: &PatKind) -> Result<(), AllocError> {
         PatKind::Int(value) => int(page, *value),
         PatKind::Char(byte) => character(page, *byte),
         PatKind::Text(found) => literal(page, found.bytes.as_slice()),
-        PatKind::Con { name: con, arg: None } => constructor(page, *con),
-        PatKind::Con { name: con, arg: Some(inner) } => {
+        PatKind::Con {
+            name: con,
+            arg: None,
+        } => constructor(page, *con),
+        PatKind::Con {
+            name: con,
+            arg: Some(inner),
+        } => {
             put(page, "(")?;
             constructor(page, *con)?;
             put(page, " ")?;
@@ -259,8 +265,14 @@ fn kind(page: &mut Page, found: &ExprKind) -> Result<(), AllocError> {
         ExprKind::Text(lit) => literal(page, lit.bytes.as_slice()),
         ExprKind::Name(span) => name(page, *span),
         ExprKind::Path(module, of) => path(page, *module, *of),
-        ExprKind::Con { name: con, arg: None } => constructor(page, *con),
-        ExprKind::Con { name: con, arg: Some(inner) } => {
+        ExprKind::Con {
+            name: con,
+            arg: None,
+        } => constructor(page, *con),
+        ExprKind::Con {
+            name: con,
+            arg: Some(inner),
+        } => {
             put(page, "(")?;
             constructor(page, *con)?;
             one(page, "", inner.get())
@@ -293,7 +305,11 @@ fn kind(page: &mut Page, found: &ExprKind) -> Result<(), AllocError> {
             expression(page, a.get())?;
             two(page, "", b.get(), c.get())
         }
-        ExprKind::Let { recursive, binds: list, body } => {
+        ExprKind::Let {
+            recursive,
+            binds: list,
+            body,
+        } => {
             put(page, if *recursive { "(letrec" } else { "(let" })?;
             binds(page, list.as_slice())?;
             one(page, "", body.get())
@@ -331,7 +347,11 @@ fn kind(page: &mut Page, found: &ExprKind) -> Result<(), AllocError> {
             put(page, ")")
         }
         ExprKind::Exclave(inner) => one(page, "(exclave_", inner.get()),
-        ExprKind::Borrow { name: new, of, body } => {
+        ExprKind::Borrow {
+            name: new,
+            of,
+            body,
+        } => {
             put(page, "(borrow_ ")?;
             name(page, *new)?;
             put(page, " ")?;
@@ -485,7 +505,10 @@ fn declarations(page: &mut Page, list: &[Decl]) -> Result<(), AllocError> {
 fn item(page: &mut Page, found: &Item) -> Result<(), AllocError> {
     match &found.kind {
         ItemKind::Types(list) => declarations(page, list.as_slice())?,
-        ItemKind::Let { recursive, binds: list } => {
+        ItemKind::Let {
+            recursive,
+            binds: list,
+        } => {
             put(page, if *recursive { "(letrec" } else { "(let" })?;
             binds(page, list.as_slice())?;
             put(page, ")")?;

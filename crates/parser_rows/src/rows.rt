@@ -1,11 +1,11 @@
 //! The parser on small sources.
 
 use crate::cases::{APPLIED, ATOMS, ITEMS, OPEN, OPERATORS, PATTERNS};
-use ml_lexer::lex;
-use oxml_base::Span;
 use crate::print::{Page, items};
 use crate::refused::{REFUSED, SPANS};
+use ml_lexer::lex;
 use ml_parser::{ParseErr, parse};
+use oxml_base::Span;
 use std::alloc::{AllocError, Global};
 use std::fmt::Write;
 use std::process::Abort;
