@@ -59,7 +59,9 @@ for f,s in files.items():
         docs=[]
         while out and (out[-1].startswith('#[') or out[-1].startswith('///')): docs.insert(0,out.pop())
         attrs=[a for a in docs if a.startswith('#[')]; docs=[a for a in docs if a.startswith('///')]
-        if n in using:
+        if n in targets and os.environ.get('NONE'):
+            attrs=[a for a in attrs if not a.startswith('#[tactic')]+['#[tactic(none)]']
+        elif n in using:
             attrs=[a for a in attrs if not a.startswith('#[tactic')]+[attribute(n)]
         if whole: out+=docs+attrs+head+body+['}']
         elif n in cyc:

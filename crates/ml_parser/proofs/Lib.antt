@@ -1,6 +1,7 @@
 mod Accepts
 mod Atoms
 mod Deep
+mod Handed
 mod Growth
 mod Items
 mod Levels
