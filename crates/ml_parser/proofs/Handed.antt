@@ -1,8 +1,9 @@
 -- What the readers below hand on, in the words of the relation.
-use Rattle.std.proofs.Common.{◌≡◌, ◌≢◌, ℕ, ◌+◌, ◌<◌, ◌≤◌, List, drop, refl, arith}
+use Rattle.std.proofs.Common.{◌≡◌, ◌≢◌, ℕ, zero, suc, ◌-◌, ◌+◌, ◌<◌, ◌≤◌, false, true, List, [], ◌∷◌, drop, Option, Some, None, refl, sym, ap, subst, ◌∙◌, arith}
 use Rattle.oxml_base.specs.declared.span.Span.{Span}
 use Rattle.ml_lexer.specs.declared.token.Token.{Token}
 use Rattle.ml_cursor.specs.declared.front.Front.{Front}
+use Rattle.ml_cursor.specs.declared.front.Front.TheVariants as F
 use Rattle.ml_cursor.specs.Fronts.{front}
 use Rattle.ml_cursor.specs.Places.{first_span, Takes}
 use Rattle.ml_cursor.specs.declared.error.ParseErr.{ParseErr}
@@ -13,9 +14,23 @@ use Rattle.ml_parse_patterns.specs.declared.found.FoundParams.{FoundParams}
 use Rattle.ml_parse_patterns.specs.declared.looks.Level.TheVariants.{Pattern}
 use Rattle.ml_parse_patterns.specs.Patterns.{ReadsParams}
 use Rattle.ml_parse_patterns.specs.Readings.{IsFound, AreParams, NoTree, NoParams}
-use Rattle.ml_parser.specs.Grammar.{ReadsPattern}
-use Rattle.ml_parser.specs.Readings.{IsRead, AreDeep}
-use Rattle.ml_parser.proofs.Deep.{says}
+use Rattle.ml_tree.specs.declared.types.TyExpr.{TyExpr}
+use Rattle.ml_tree.specs.declared.expr.Expr.{Expr}
+use Rattle.ml_tree.specs.declared.expr.ExprKind.TheVariants as E
+use Rattle.ml_parse_types.specs.declared.looks.Row.TheVariants.{Factors}
+use Rattle.ml_parse_types.specs.Types.{ReadsType, got}
+use Rattle.ml_parse_types.specs.Readers.{IsNone}
+use Rattle.ml_parse_types.proofs.Unique.{same_type}
+use Rattle.ml_parser.specs.declared.looks.Leaf.{Leaf}
+use Rattle.ml_parser.specs.declared.looks.Leaf.TheVariants as L
+use Rattle.ml_parser.specs.declared.looks.Lead.TheVariants as O
+use Rattle.ml_parser.specs.declared.looks.Suffix.TheVariants as S
+use Rattle.ml_parser.specs.Looks.{is_colon}
+use Rattle.ml_parser.specs.Trees.{node, start_of, width}
+use Rattle.ml_parser.specs.Grammar.{ReadsPattern, HasType, Borrows, borrows, OperandBy, an_overwrite}
+use Rattle.ml_parser.specs.Readings.{IsRead, AreDeep, OneSuffix, one_field, Results, NoResults, NoBorrows, ClosesParens, closes_paren, closes_typed, NotClosed}
+use Rattle.ml_parser.proofs.Deep.{says, never, read_as}
+use Rattle.ml_parser.proofs.Items.{no_result_equal, result_no_type, result_not_equal}
 
 -- a token that stands at a place, is passed, and gives its span
 pub takes : {want : Front} {ts rest : List Token} → front ts ≡ want → rest ≡ drop 1 ts → Takes want ts rest (first_span ts)
@@ -32,3 +47,110 @@ params_read h = record { reads = h.reads; small = h.small }
 
 pub params_says : {text : List ℕ} {left : ℕ} {ts : List Token} (tokens : List Token) (e : ParseErr) → Says tokens (NoParams text left ts) e → Says tokens (AreDeep (ReadsParams text ts) left) e
 params_says tokens e h = says tokens (λ n. record { deep = n.deep }) e h
+
+-- behind the last token of a leaf
+
+one_after : (n : ℕ) (ts : List Token) → drop 1 (drop n ts) ≡ drop (suc n) ts
+one_after zero ts = refl
+one_after (suc n) [] = refl
+one_after (suc n) (t ∷ ts) = one_after n ts
+
+pub after_last : (l : Leaf) (ts : List Token) → drop 1 (drop (width l - 1) ts) ≡ drop (width l) ts
+after_last L.Path ts = one_after 2 ts
+after_last L.Unit ts = one_after 1 ts
+after_last L.Nil ts = one_after 1 ts
+after_last L.Int ts = refl
+after_last L.Char ts = refl
+after_last L.Name ts = refl
+after_last L.Upper ts = refl
+after_last L.True ts = refl
+after_last L.False ts = refl
+
+-- `.name`, or not
+
+pub field_found : {text : List ℕ} {a e : Expr} {da d left : ℕ} {ts r : List Token} → front ts ≡ F.Dot → front (drop 1 ts) ≡ F.Lower → r ≡ drop 1 (drop 1 ts) → e ≡ node (start_of a) (first_span (drop 1 ts)).end (E.Field a (first_span (drop 1 ts))) → d ≡ da + 1 → da < left → IsRead (OneSuffix text a da S.Field ts) left e d r
+field_found {r = r} p q f h k m = read_as r (one_field (takes p refl) (takes q f)) h k (omega arith)
+
+pub field_none : {text : List ℕ} {a : Expr} {da left : ℕ} {ts : List Token} → (front ts ≡ F.Dot → front (drop 1 ts) ≡ F.Lower → ⊥) → AreDeep (OneSuffix text a da S.Field ts) left
+field_none {text} {a} {da} {left} {ts} n = never (λ e d r x. inner x)
+  where
+    inner : {e : Expr} {d : ℕ} {r : List Token} → OneSuffix text a da S.Field ts e d r → ⊥
+    inner (one_field p q) = n p.stands (ap front (sym p.rest_is) ∙ q.stands)
+
+-- `[: type] =`, or not
+
+pub results_no_equal : {ts : List Token} → is_colon (front ts) ≡ false → front ts ≢ F.Equal → NoResults ts
+results_no_equal p n = record { none = no_result_equal p n }
+
+pub results_no_type : {ts us : List Token} → is_colon (front ts) ≡ true → us ≡ drop 1 ts → IsNone (ReadsType Factors) us → NoResults ts
+results_no_type p e n = record { none = result_no_type p e (λ t r x. n.none (got t r) x) }
+
+pub results_not_equal : {ts us vs : List Token} {t : TyExpr} → is_colon (front ts) ≡ true → us ≡ drop 1 ts → HasType us t vs → front vs ≢ F.Equal → NoResults ts
+results_not_equal p e x n = record { none = result_not_equal p e x n }
+
+-- `borrow_ y = x`, or not
+
+next_of : {w : Front} {us us' vs vs' : List Token} {s s' : Span} → us' ≡ us → Takes w us vs s → Takes w us' vs' s' → vs' ≡ vs
+next_of e t u = u.rest_is ∙ (ap (drop 1) e ∙ sym t.rest_is)
+
+pub no_borrow_word : {ts : List Token} → front ts ≢ F.Borrow → NoBorrows ts
+no_borrow_word {ts} n = record { none = λ y x r q. inner q }
+  where
+    inner : {y x : Span} {r : List Token} → Borrows ts y x r → ⊥
+    inner (borrows a b c d) = n a.stands
+
+pub no_borrow_name : {ts us : List Token} {s : Span} → Takes F.Borrow ts us s → front us ≢ F.Lower → NoBorrows ts
+no_borrow_name {ts} t n = record { none = λ y x r q. inner q }
+  where
+    inner : {y x : Span} {r : List Token} → Borrows ts y x r → ⊥
+    inner (borrows a b c d) = n (ap front (sym (next_of refl t a)) ∙ b.stands)
+
+pub no_borrow_equal : {ts us vs : List Token} {s y : Span} → Takes F.Borrow ts us s → Takes F.Lower us vs y → front vs ≢ F.Equal → NoBorrows ts
+no_borrow_equal {ts} t u n = record { none = λ y x r q. inner q }
+  where
+    inner : {y x : Span} {r : List Token} → Borrows ts y x r → ⊥
+    inner (borrows a b c d) = n (ap front (sym (next_of (next_of refl t a) u b)) ∙ c.stands)
+
+pub no_borrow_of : {ts us vs ws : List Token} {s y e : Span} → Takes F.Borrow ts us s → Takes F.Lower us vs y → Takes F.Equal vs ws e → front ws ≢ F.Lower → NoBorrows ts
+no_borrow_of {ts} t u v n = record { none = λ y x r q. inner q }
+  where
+    inner : {y x : Span} {r : List Token} → Borrows ts y x r → ⊥
+    inner (borrows a b c d) = n (ap front (sym (next_of (next_of (next_of refl t a) u b) v c)) ∙ d.stands)
+
+-- `name with`, or not
+
+pub overwrite_none : {text : List ℕ} {ts us : List Token} {left : ℕ} → us ≡ drop 1 ts → (front us ≡ F.Lower → front (drop 1 us) ≡ F.With → ⊥) → AreDeep (OperandBy text O.Overwrite ts) left
+overwrite_none {text} {ts} {us} e n = never (λ y d r q. inner q)
+  where
+    inner : {y : Expr} {d : ℕ} {r : List Token} → OperandBy text O.Overwrite ts y d r → ⊥
+    inner (an_overwrite p q x) = n (ap front e ∙ p.stands) (ap front (ap (drop 1) e ∙ sym p.rest_is) ∙ q.stands)
+
+-- `)` or `: type )`, or not
+
+colon_paren : {P : Type 0} → F.Colon ≡ F.CloseParen → P
+colon_paren q = cc
+
+pub parens_open : {from : ℕ} {e : Expr} {ts : List Token} → front ts ≢ F.Colon → front ts ≢ F.CloseParen → NotClosed from e ts
+parens_open {from} {e} {ts} m n = record { none = λ f r q. inner q }
+  where
+    inner : {f : Expr} {r : List Token} → ClosesParens from e ts f r → ⊥
+    inner (closes_paren p) = n p.stands
+    inner (closes_typed p t q) = m p.stands
+
+pub parens_no_type : {from : ℕ} {e : Expr} {ts us : List Token} {c : Span} → Takes F.Colon ts us c → IsNone (ReadsType Factors) us → NotClosed from e ts
+parens_no_type {from} {e} {ts} {us} {c} k n = record { none = λ f r q. inner q }
+  where
+    inner : {f : Expr} {r : List Token} → ClosesParens from e ts f r → ⊥
+    inner (closes_paren p) = colon_paren (sym k.stands ∙ p.stands)
+    inner (closes_typed {vs = vs} {t = t} p x q) = n.none (got t vs) (subst (λ us. HasType us t vs) (next_of refl k p) x)
+
+rest_of_got : {t u : TyExpr} {r s : List Token} → got t r ≡ got u s → r ≡ s
+rest_of_got e = ap (λ o. o.rest) e
+
+pub parens_not_closed : {from : ℕ} {e : Expr} {ts us vs : List Token} {t : TyExpr} {c : Span} → Takes F.Colon ts us c → HasType us t vs → front vs ≢ F.CloseParen → NotClosed from e ts
+parens_not_closed {from} {e} {ts} {us} {vs} {t} {c} k x n = record { none = λ f r q. inner q }
+  where
+    inner : {f : Expr} {r : List Token} → ClosesParens from e ts f r → ⊥
+    inner (closes_paren p) = colon_paren (sym k.stands ∙ p.stands)
+    inner (closes_typed {vs = vs'} {t = t'} p y q) =
+        n (ap front (rest_of_got (same_type x (subst (λ us. HasType us t' vs') (next_of refl k p) y))) ∙ q.stands)
