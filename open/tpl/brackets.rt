@@ -6,7 +6,7 @@ ghost use Rattle.ml_cursor.specs.Fronts.{front};
 ghost use Rattle.ml_cursor.specs.Places.{first_span};
 ghost use Rattle.ml_cursor.specs.Says.{Says};
 ghost use Rattle.ml_parser.specs.Trees.{node, start_of};
-ghost use Rattle.ml_parser.specs.Refusals.{IsRefused};
+ghost use Rattle.ml_parser.specs.Readings.{ClosesParens, NotClosed};
 
 use crate::target::read_whole_type;
 use crate::found::{Found, Head, deeper, expect, joined, node};
@@ -27,7 +27,10 @@ pub fn field_of(
     requires { found.depth < 2 ^ 32 - 1 }
     ensures tree { IfOk result (λ f. f.tree ≡ node (start_of found.tree) (first_span (drop 1 (drop at.old tokens.now))).end (ExprKind.Field found.tree (first_span (drop 1 (drop at.old tokens.now))))) }
     ensures depth { IfOk result (λ f. f.depth ≡ found.depth + 1) }
-    ensures err { IfErr result (IsRefused tokens.now) }
+    ensures dot { IfOk result (λ f. front (drop at.old tokens.now) ≡ Front.Dot) }
+    ensures name { IfOk result (λ f. front (drop 1 (drop at.old tokens.now)) ≡ Front.Lower) }
+    ensures passed { IfOk result (λ f. drop at.new tokens.now ≡ drop 1 (drop 1 (drop at.old tokens.now))) }
+    ensures err { IfErr result (Says tokens.now (front (drop at.old tokens.now) ≡ Front.Dot → front (drop 1 (drop at.old tokens.now)) ≡ Front.Lower → ⊥)) }
 {
     expect(tokens, at, Front::Dot)?;
     let name = expect(tokens, at, Front::Lower)?;
@@ -127,7 +130,8 @@ pub fn close_parens(
 ) -> Result<Found<Expr>, ParseErr>
     requires { inner.depth < 2 ^ 32 - 1 }
     ensures depth { IfOk result (λ f. f.depth ≡ inner.depth + 1) }
-    ensures err { IfErr result (IsRefused tokens.now) }
+    ensures closes { IfOk result (λ f. ClosesParens head.span.start inner.tree (drop at.old tokens.now) f.tree (drop at.new tokens.now)) }
+    ensures err { IfErr result (Says tokens.now (NotClosed head.span.start inner.tree (drop at.old tokens.now))) }
 {
     if !stands(tokens, *at, Front::Colon) {
         return Ok(close_paren(alloc, tokens, at, Front::CloseParen, head, inner)?);

@@ -1,9 +1,16 @@
 //! Items: the bindings and the declarations of types at the top of a program.
-ghost use Rattle.std.specs.Prelude.{◌≡◌, ◌≤◌, drop, All, IfOk, IfErr};
+ghost use Rattle.std.specs.Prelude.{◌≡◌, drop, All, IfOk, IfErr};
 ghost use Rattle.ml_lexer.specs.Tokens.{IsSound};
+ghost use Rattle.ml_cursor.specs.Says.{Says};
+ghost use Rattle.ml_parse_types.specs.Types.{got};
+ghost use Rattle.ml_parse_types.specs.Decls.{ReadsDecls};
+ghost use Rattle.ml_parse_types.specs.Readers.{IsNone};
+ghost use Rattle.ml_numbers.specs.Numbered.{numbered};
+ghost use Rattle.ml_parser.specs.declared.looks.ItemLead.{ItemLead};
 ghost use Rattle.ml_parser.specs.Looks.{item_by, item_lead};
 ghost use Rattle.ml_parser.specs.Trees.{end_behind, end_of_bind};
-ghost use Rattle.ml_parser.specs.Refusals.{IsRefused};
+ghost use Rattle.ml_parser.specs.Programs.{AnItemBy, IsItem, Derives, NoProgram};
+ghost use Rattle.ml_parser.specs.Readings.{AreDeep};
 
 use crate::bind::read_binds;
 use crate::looks::ItemLead;
@@ -39,7 +46,8 @@ fn end_of_last(binds: &[Bind]) -> u32
 /// `let [rec] bind (and bind)*`
 fn read_let_item(alloc: Global, source: &Source, at: &mut usize) -> Result<Item, ParseErr>
     requires texts { All (IsSound source.now.text.now) source.now.tokens.now }
-    ensures err { IfErr result (IsRefused source.now.tokens.now) }
+    ensures ok { IfOk result (IsItem source.now.text.now ItemLead.Let (drop at.old source.now.tokens.now) (drop at.new source.now.tokens.now)) }
+    ensures err { IfErr result (Says source.now.tokens.now (AreDeep (AnItemBy source.now.text.now ItemLead.Let (drop at.old source.now.tokens.now)) 1000)) }
 {
     let start = span_at(source.tokens, *at).start;
     pass(source.tokens, at);
@@ -54,13 +62,13 @@ fn read_let_item(alloc: Global, source: &Source, at: &mut usize) -> Result<Item,
 }
 
 /// `decl (and decl)*`
-#[tactic(auto, using(crate::proofs::Refused::refused))]
 fn read_all_decls(
     alloc: Global,
     tokens: &[Token],
     at: &mut usize,
 ) -> Result<Items<Decl>, ParseErr>
-    ensures err { IfErr result (IsRefused tokens.now) }
+    ensures ok { IfOk result (λ decls. ReadsDecls (drop at.old tokens.now) (got decls (drop at.new tokens.now))) }
+    ensures err { IfErr result (Says tokens.now (IsNone ReadsDecls (drop at.old tokens.now))) }
 {
     match read_decls(alloc, tokens, at) {
         Ok(decls) => Ok(decls),
@@ -69,13 +77,14 @@ fn read_all_decls(
 }
 
 /// `type decl (and decl)*`
-fn read_types_item(alloc: Global, tokens: &[Token], at: &mut usize) -> Result<Item, ParseErr>
-    ensures err { IfErr result (IsRefused tokens.now) }
+fn read_types_item(alloc: Global, source: &Source, at: &mut usize) -> Result<Item, ParseErr>
+    ensures ok { IfOk result (IsItem source.now.text.now ItemLead.Types (drop at.old source.now.tokens.now) (drop at.new source.now.tokens.now)) }
+    ensures err { IfErr result (Says source.now.tokens.now (AreDeep (AnItemBy source.now.text.now ItemLead.Types (drop at.old source.now.tokens.now)) 1000)) }
 {
     let start = *at;
-    pass(tokens, at);
-    let decls = read_all_decls(alloc, tokens, at)?;
-    Ok(item(extent(tokens, start, *at), ItemKind::Types(decls)))
+    pass(source.tokens, at);
+    let decls = read_all_decls(alloc, source.tokens, at)?;
+    Ok(item(extent(source.tokens, start, *at), ItemKind::Types(decls)))
 }
 
 fn item_by(front: Front) -> ItemLead
@@ -101,11 +110,12 @@ fn item_at(tokens: &[Token], at: usize) -> ItemLead
 /// The item at this place.
 fn read_item(alloc: Global, source: &Source, at: &mut usize) -> Result<Item, ParseErr>
     requires texts { All (IsSound source.now.text.now) source.now.tokens.now }
-    ensures err { IfErr result (IsRefused source.now.tokens.now) }
+    ensures ok { IfOk result (IsItem source.now.text.now (item_lead (drop at.old source.now.tokens.now)) (drop at.old source.now.tokens.now) (drop at.new source.now.tokens.now)) }
+    ensures err { IfErr result (Says source.now.tokens.now (AreDeep (AnItemBy source.now.text.now (item_lead (drop at.old source.now.tokens.now)) (drop at.old source.now.tokens.now)) 1000)) }
 {
     match item_at(source.tokens, *at) {
         ItemLead::Let => Ok(read_let_item(alloc, source, at)?),
-        ItemLead::Types => Ok(read_types_item(alloc, source.tokens, at)?),
+        ItemLead::Types => Ok(read_types_item(alloc, source, at)?),
         _ => Err(ParseErr::Refused(refusal_at(source.tokens, *at))),
     }
 }
@@ -113,14 +123,12 @@ fn read_item(alloc: Global, source: &Source, at: &mut usize) -> Result<Item, Par
 /// All items, with `;;` among them.
 pub fn read_items(alloc: Global, source: &Source) -> Result<Items<Item>, ParseErr>
     requires texts { All (IsSound source.now.text.now) source.now.tokens.now }
-    ensures err { IfErr result (IsRefused source.now.tokens.now) }
+    ensures ok { IfOk result (λ items. Derives source.now.text.now source.now.tokens.now (numbered items)) }
+    ensures err { IfErr result (Says source.now.tokens.now (NoProgram source.now.text.now source.now.tokens.now)) }
 {
     let mut list = Items::new(alloc);
     let mut at = 0;
-    'items: for _ in source.tokens {
-        if at >= source.tokens.len() {
-            return Ok(list);
-        }
+    'items: while at < source.tokens.len() {
         if !accept(source.tokens, &mut at, Front::SemiSemi) {
             let item = read_item(alloc, source, &mut at)?;
             list.push(item)?;

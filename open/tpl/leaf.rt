@@ -1,8 +1,11 @@
 //! Atoms without parts.
 ghost use Rattle.std.specs.Prelude.{◌≡◌, ◌≤◌, ◌-◌, drop, All, IfOk, IfErr};
 ghost use Rattle.ml_lexer.specs.Tokens.{IsSound};
-ghost use Rattle.ml_parser.specs.Refusals.{IsRefused};
+ghost use Rattle.ml_cursor.specs.Says.{Says};
+ghost use Rattle.ml_parser.specs.declared.looks.AtomLead.{AtomLead};
 ghost use Rattle.ml_parser.specs.Trees.{width, constant, leaf_kind};
+ghost use Rattle.ml_parser.specs.Grammar.{AtomBy};
+ghost use Rattle.ml_parser.specs.Readings.{IsRead, AreDeep};
 
 use crate::found::{Found, joined, node, open_form};
 use crate::looks::Leaf;
@@ -59,8 +62,8 @@ pub fn read_leaf(
     at: &mut usize,
     left: u32,
 ) -> Result<Found<Expr>, ParseErr>
-    ensures small { IfOk result (λ f. f.depth ≤ left) }
-    ensures err { IfErr result (IsRefused source.now.tokens.now) }
+    ensures ok { IfOk result (λ f. IsRead (AtomBy source.now.text.now (AtomLead.Leaf leaf) (drop at.old source.now.tokens.now)) left f.tree f.depth (drop at.new source.now.tokens.now)) }
+    ensures err { IfErr result (Says source.now.tokens.now (AreDeep (AtomBy source.now.text.now (AtomLead.Leaf leaf) (drop at.old source.now.tokens.now)) left)) }
 {
     if left == 0 {
         return Err(ParseErr::Refused(refusal_at(source.tokens, *at)));
@@ -81,8 +84,8 @@ pub fn read_text(
     left: u32,
 ) -> Result<Found<Expr>, ParseErr>
     requires texts { All (IsSound source.now.text.now) source.now.tokens.now }
-    ensures small { IfOk result (λ f. f.depth ≤ left) }
-    ensures err { IfErr result (IsRefused source.now.tokens.now) }
+    ensures ok { IfOk result (λ f. IsRead (AtomBy source.now.text.now AtomLead.Text (drop at.old source.now.tokens.now)) left f.tree f.depth (drop at.new source.now.tokens.now)) }
+    ensures err { IfErr result (Says source.now.tokens.now (AreDeep (AtomBy source.now.text.now AtomLead.Text (drop at.old source.now.tokens.now)) left)) }
 {
     let Some(token) = token_at(source.tokens, *at) else {
         return Err(ParseErr::Refused(refusal_at(source.tokens, *at)));

@@ -68,7 +68,6 @@ fn read_borrow(
     at: &mut usize,
     left: u32,
 ) -> Result<Found<Expr>, ParseErr>
-    requires borrows { lead (drop at.old source.now.tokens.now) ≡ Lead.Borrow }
     //@reads OperandBy TEXT Lead.Borrow HERE
 {
     let head = open_form(source.tokens, at, left)?;

@@ -1,6 +1,7 @@
-ghost use Rattle.std.specs.Prelude.{◌≤◌, All, length, IfErr};
+ghost use Rattle.std.specs.Prelude.{◌≤◌, All, length, IfOk, IfErr};
 ghost use Rattle.ml_lexer.specs.Tokens.{IsSound};
-ghost use Rattle.ml_parser.specs.Refusals.{IsRefused};
+ghost use Rattle.ml_cursor.specs.Says.{Says};
+ghost use Rattle.ml_parser.specs.Programs.{Derives, NoProgram};
 
 use crate::item::read_items;
 use crate::source::Source;
@@ -16,7 +17,8 @@ use std::alloc::Global;
 pub fn parse(alloc: Global, text: &[u8], tokens: &[Token]) -> Result<Program, ParseErr>
     requires texts { All (IsSound text.now) tokens.now }
     requires few { length tokens.now ≤ 1000000 }
-    ensures err { IfErr result (IsRefused tokens.now) }
+    ensures ok { IfOk result (Derives text.now tokens.now) }
+    ensures err { IfErr result (Says tokens.now (NoProgram text.now tokens.now)) }
 {
     let Ok(lets) = closed_lets(alloc, tokens) else {
         return Err(ParseErr::NoMemory);

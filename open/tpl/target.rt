@@ -1,8 +1,18 @@
 //! What stands before the value of a bind, and the names of other forms.
-ghost use Rattle.std.specs.Prelude.{◌≡◌, ◌≤◌, All, IfOk, IfErr};
+ghost use Rattle.std.specs.Prelude.{◌≡◌, ◌≤◌, drop, true, All, IfOk, IfErr};
 ghost use Rattle.ml_lexer.specs.Tokens.{IsSound};
+ghost use Rattle.ml_cursor.specs.declared.front.Front.{Front};
+ghost use Rattle.ml_cursor.specs.Fronts.{front};
+ghost use Rattle.ml_cursor.specs.Places.{first_span, Takes};
+ghost use Rattle.ml_cursor.specs.Says.{Says};
+ghost use Rattle.ml_parse_types.specs.declared.looks.Row.{Row};
+ghost use Rattle.ml_parse_types.specs.Types.{ReadsType};
+ghost use Rattle.ml_parse_types.specs.Readers.{IsNone};
+ghost use Rattle.ml_parse_patterns.specs.Patterns.{ReadsParams};
+ghost use Rattle.ml_parser.specs.Looks.{binds_function};
 ghost use Rattle.ml_parser.specs.Trees.{name_pattern};
-ghost use Rattle.ml_parser.specs.Refusals.{IsRefused};
+ghost use Rattle.ml_parser.specs.Grammar.{ReadsPattern, TargetBy, HasType, Borrows};
+ghost use Rattle.ml_parser.specs.Readings.{IsRead, AreDeep, TargetsAreDeep, Results, NoResults, NoBorrows};
 
 use crate::begins::binds_function;
 use crate::forms::Borrowed;
@@ -18,7 +28,6 @@ use oxml_base::{Items, Span};
 use std::alloc::Global;
 
 /// A pattern.
-#[tactic(auto, using(crate::proofs::Refused::refused, crate::proofs::Refused::pattern_small))]
 pub fn read_whole_pattern(
     alloc: Global,
     source: &Source,
@@ -26,8 +35,8 @@ pub fn read_whole_pattern(
     left: u32,
 ) -> Result<FoundPat, ParseErr>
     requires texts { All (IsSound source.now.text.now) source.now.tokens.now }
-    ensures small { IfOk result (λ pat. pat.depth ≤ left) }
-    ensures err { IfErr result (IsRefused source.now.tokens.now) }
+    ensures ok { IfOk result (λ pat. IsRead (ReadsPattern source.now.text.now (drop at.old source.now.tokens.now)) left pat.pat pat.depth (drop at.new source.now.tokens.now)) }
+    ensures err { IfErr result (Says source.now.tokens.now (AreDeep (ReadsPattern source.now.text.now (drop at.old source.now.tokens.now)) left)) }
 {
     match read_pattern(alloc, source.text, source.tokens, at, left) {
         Ok(pat) => Ok(pat),
@@ -36,7 +45,6 @@ pub fn read_whole_pattern(
 }
 
 /// `param+`
-#[tactic(auto, using(crate::proofs::Refused::refused, crate::proofs::Refused::params_small))]
 pub fn read_all_params(
     alloc: Global,
     source: &Source,
@@ -44,8 +52,8 @@ pub fn read_all_params(
     left: u32,
 ) -> Result<FoundParams, ParseErr>
     requires texts { All (IsSound source.now.text.now) source.now.tokens.now }
-    ensures small { IfOk result (λ params. params.depth ≤ left) }
-    ensures err { IfErr result (IsRefused source.now.tokens.now) }
+    ensures ok { IfOk result (λ params. IsRead (ReadsParams source.now.text.now (drop at.old source.now.tokens.now)) left params.list params.depth (drop at.new source.now.tokens.now)) }
+    ensures err { IfErr result (Says source.now.tokens.now (AreDeep (ReadsParams source.now.text.now (drop at.old source.now.tokens.now)) left)) }
 {
     match read_params(alloc, source.text, source.tokens, at, left) {
         Ok(params) => Ok(params),
@@ -81,9 +89,11 @@ fn read_function_target(
     left: u32,
 ) -> Result<Target, ParseErr>
     requires texts { All (IsSound source.now.text.now) source.now.tokens.now }
+    requires function { binds_function (drop at.old source.now.tokens.now) ≡ true }
+    ensures reads { IfOk result (λ target. TargetBy source.now.text.now (binds_function (drop at.old source.now.tokens.now)) (drop at.old source.now.tokens.now) target.pat.pat target.pat.depth target.params.list target.params.depth (drop at.new source.now.tokens.now)) }
     ensures pattern { IfOk result (λ target. target.pat.depth ≤ left) }
     ensures params { IfOk result (λ target. target.params.depth ≤ left) }
-    ensures err { IfErr result (IsRefused source.now.tokens.now) }
+    ensures err { IfErr result (Says source.now.tokens.now (TargetsAreDeep source.now.text.now (drop at.old source.now.tokens.now) left)) }
 {
     if left == 0 {
         return Err(ParseErr::Refused(refusal_at(source.tokens, *at)));
@@ -102,9 +112,10 @@ pub fn read_target(
     left: u32,
 ) -> Result<Target, ParseErr>
     requires texts { All (IsSound source.now.text.now) source.now.tokens.now }
+    ensures reads { IfOk result (λ target. TargetBy source.now.text.now (binds_function (drop at.old source.now.tokens.now)) (drop at.old source.now.tokens.now) target.pat.pat target.pat.depth target.params.list target.params.depth (drop at.new source.now.tokens.now)) }
     ensures pattern { IfOk result (λ target. target.pat.depth ≤ left) }
     ensures params { IfOk result (λ target. target.params.depth ≤ left) }
-    ensures err { IfErr result (IsRefused source.now.tokens.now) }
+    ensures err { IfErr result (Says source.now.tokens.now (TargetsAreDeep source.now.text.now (drop at.old source.now.tokens.now) left)) }
 {
     if binds_function(source.tokens, *at) {
         return Ok(read_function_target(alloc, source, at, left)?);
@@ -118,13 +129,13 @@ pub fn read_target(
 }
 
 /// A type.
-#[tactic(auto, using(crate::proofs::Refused::refused))]
 pub fn read_whole_type(
     alloc: Global,
     tokens: &[Token],
     at: &mut usize,
 ) -> Result<TyExpr, ParseErr>
-    ensures err { IfErr result (IsRefused tokens.now) }
+    ensures ok { IfOk result (λ ty. HasType (drop at.old tokens.now) ty (drop at.new tokens.now)) }
+    ensures err { IfErr result (Says tokens.now (IsNone (ReadsType Row.Factors) (drop at.old tokens.now))) }
 {
     match read_type(alloc, tokens, at, Row::Factors) {
         Ok(ty) => Ok(ty),
@@ -138,7 +149,8 @@ pub fn read_result(
     tokens: &[Token],
     at: &mut usize,
 ) -> Result<Option<TyExpr>, ParseErr>
-    ensures err { IfErr result (IsRefused tokens.now) }
+    ensures ok { IfOk result (λ ty. Results (drop at.old tokens.now) ty (drop at.new tokens.now)) }
+    ensures err { IfErr result (Says tokens.now (NoResults (drop at.old tokens.now))) }
 {
     if !accept(tokens, at, Front::Colon) {
         expect(tokens, at, Front::Equal)?;
@@ -151,7 +163,8 @@ pub fn read_result(
 
 /// `borrow_ name = name`
 pub fn read_borrowed(tokens: &[Token], at: &mut usize) -> Result<Borrowed, ParseErr>
-    ensures err { IfErr result (IsRefused tokens.now) }
+    ensures ok { IfOk result (λ names. Borrows (drop at.old tokens.now) names.name names.of (drop at.new tokens.now)) }
+    ensures err { IfErr result (Says tokens.now (NoBorrows (drop at.old tokens.now))) }
 {
     expect(tokens, at, Front::Borrow)?;
     let name = expect(tokens, at, Front::Lower)?;
@@ -162,7 +175,9 @@ pub fn read_borrowed(tokens: &[Token], at: &mut usize) -> Result<Borrowed, Parse
 
 /// `name with`
 pub fn read_overwritten(tokens: &[Token], at: &mut usize) -> Result<Span, ParseErr>
-    ensures err { IfErr result (IsRefused tokens.now) }
+    ensures name { IfOk result (λ name. Takes Front.Lower (drop at.old tokens.now) (drop 1 (drop at.old tokens.now)) name) }
+    ensures passed { IfOk result (λ name. Takes Front.With (drop 1 (drop at.old tokens.now)) (drop at.new tokens.now) (first_span (drop 1 (drop at.old tokens.now)))) }
+    ensures err { IfErr result (Says tokens.now (front (drop at.old tokens.now) ≡ Front.Lower → front (drop 1 (drop at.old tokens.now)) ≡ Front.With → ⊥)) }
 {
     let name = expect(tokens, at, Front::Lower)?;
     expect(tokens, at, Front::With)?;
