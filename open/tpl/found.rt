@@ -4,7 +4,6 @@ ghost use Rattle.ml_cursor.specs.Fronts.{front};
 ghost use Rattle.ml_cursor.specs.Places.{span, first_span};
 ghost use Rattle.ml_cursor.specs.Says.{Says};
 ghost use Rattle.ml_parser.specs.Trees.{node};
-ghost use Rattle.ml_parser.specs.Refusals.{IsRefused};
 
 use ml_cursor::{Front, ParseErr, accept, pass, refusal_at, span_at, stands};
 use ml_lexer::Token;
@@ -205,11 +204,4 @@ pub fn nothing<T>() -> Found<Option<T>>
         tree: None,
         depth: 0,
     }
-}
-
-/// The refusal of the token at a place, for what was found before it.
-pub fn give_up<T: Drop>(tokens: &[Token], at: usize, _found: Found<T>) -> ParseErr
-    ensures { IsRefused tokens.now result }
-{
-    ParseErr::Refused(refusal_at(tokens, at))
 }

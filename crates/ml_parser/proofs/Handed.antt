@@ -1,5 +1,5 @@
 -- What the readers below hand on, in the words of the relation.
-use Rattle.std.proofs.Common.{◌≡◌, ◌≢◌, ℕ, zero, suc, ◌-◌, ◌+◌, ◌<◌, ◌≤◌, false, true, List, [], ◌∷◌, drop, Option, Some, None, refl, sym, ap, subst, ◌∙◌, arith}
+use Rattle.std.proofs.Common.{◌≡◌, ◌≢◌, ℕ, zero, suc, ◌-◌, ◌+◌, ◌<◌, ◌≤◌, false, true, List, [], ◌∷◌, ◌++◌, max, drop, Option, Some, None, refl, sym, ap, subst, ◌∙◌, arith}
 use Rattle.oxml_base.specs.declared.span.Span.{Span}
 use Rattle.ml_lexer.specs.declared.token.Token.{Token}
 use Rattle.ml_cursor.specs.declared.front.Front.{Front}
@@ -27,10 +27,10 @@ use Rattle.ml_parser.specs.declared.looks.Lead.TheVariants as O
 use Rattle.ml_parser.specs.declared.looks.Suffix.TheVariants as S
 use Rattle.ml_parser.specs.Looks.{is_colon}
 use Rattle.ml_parser.specs.Trees.{node, start_of, width}
-use Rattle.ml_parser.specs.Grammar.{ReadsPattern, HasType, Borrows, borrows, OperandBy, an_overwrite}
+use Rattle.ml_parser.specs.Grammar.{Kind, ItemOf, more, past, to_next, Lists, ItemBy, ReadsPattern, HasType, Borrows, borrows, OperandBy, an_overwrite}
 use Rattle.ml_parser.specs.Readings.{IsRead, AreDeep, OneSuffix, one_field, Results, NoResults, NoBorrows, ClosesParens, closes_paren, closes_typed, NotClosed}
 use Rattle.ml_parser.proofs.Deep.{says, never, read_as}
-use Rattle.ml_parser.proofs.Items.{no_result_equal, result_no_type, result_not_equal}
+use Rattle.ml_parser.proofs.Items.{ListSoFar, list_step, list_done, no_result_equal, result_no_type, result_not_equal}
 
 -- a token that stands at a place, is passed, and gives its span
 pub takes : {want : Front} {ts rest : List Token} → front ts ≡ want → rest ≡ drop 1 ts → Takes want ts rest (first_span ts)
@@ -154,3 +154,12 @@ parens_not_closed {from} {e} {ts} {us} {vs} {t} {c} k x n = record { none = λ f
     inner (closes_paren p) = colon_paren (sym k.stands ∙ p.stands)
     inner (closes_typed {vs = vs'} {t = t'} p y q) =
         n (ap front (rest_of_got (same_type x (subst (λ us. HasType us t' vs') (next_of refl k p) y))) ∙ q.stands)
+
+-- the loops of lists: one more, and what goes on; or the last one
+
+pub list_goes : {text : List ℕ} {k : Kind} {start ts us vs : List Token} {done xs : List (ItemOf k)} {x : ItemOf k} {depth dx d left : ℕ} → ListSoFar text k start done depth ts → IsRead (ItemBy text k ts) left x dx us → more k us ≡ true → vs ≡ to_next k us → xs ≡ done ++ (x ∷ []) → d ≡ max depth dx → ListSoFar text k start xs d vs
+list_goes {text} {k} {start} {ts} {us} {vs} {done} {xs} {x} {depth} {dx} i y m f g h =
+    subst (λ xs. ListSoFar text k start xs _ vs) (sym g) (subst (λ d. ListSoFar text k start (done ++ (x ∷ [])) d vs) (sym h) (list_step i y.reads m f))
+
+pub list_read : {text : List ℕ} {k : Kind} {start ts us r : List Token} {done xs : List (ItemOf k)} {x : ItemOf k} {depth dx d left : ℕ} → ListSoFar text k start done depth ts → depth ≤ left → IsRead (ItemBy text k ts) left x dx us → more k us ≡ false → r ≡ past k us → xs ≡ done ++ (x ∷ []) → d ≡ max depth dx → IsRead (Lists text k start) left xs d r
+list_read {r = r} i l y m f g h = let n = y.small in read_as r (list_done i y.reads m f) g h (omega arith)
