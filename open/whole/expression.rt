@@ -163,7 +163,7 @@ fn read_second(
 
 /// A sequence, and the token that has to stand behind it.
 #[cycle(expressions)]
-#[tactic(auto, using(crate::proofs::Deep::deep_along))]
+#[tactic(auto, using(crate::proofs::Handed::until_read, crate::proofs::Handed::until_deep, crate::proofs::Handed::until_other))]
 pub fn read_until(
     end: Front,
     alloc: Global,
@@ -181,7 +181,7 @@ pub fn read_until(
 
 /// The token that has to stand here, and the sequence behind it.
 #[cycle(expressions)]
-#[tactic(auto, using(crate::proofs::Deep::deep_along))]
+#[tactic(auto, using(crate::proofs::Handed::behind_read, crate::proofs::Handed::behind_deep, crate::proofs::Handed::behind_other))]
 pub fn read_behind(
     start: Front,
     alloc: Global,

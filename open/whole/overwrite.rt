@@ -41,6 +41,7 @@ pub fn read_overwrite(
 
 /// `Name simple`, or `(expr)` with `::` on top.
 #[cycle(expressions)]
+#[tactic(auto, using(crate::proofs::Handed::con_read, crate::proofs::Handed::con_deep, crate::proofs::Handed::no_con))]
 fn read_con(
     alloc: Global,
     source: &Source,

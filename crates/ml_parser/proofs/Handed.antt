@@ -27,9 +27,10 @@ use Rattle.ml_parser.specs.declared.looks.Lead.TheVariants as O
 use Rattle.ml_parser.specs.declared.looks.Suffix.TheVariants as S
 use Rattle.ml_parser.specs.Looks.{is_colon}
 use Rattle.ml_parser.specs.Trees.{node, start_of, width}
-use Rattle.ml_parser.specs.Grammar.{Kind, ItemOf, more, past, to_next, Lists, ItemBy, ReadsPattern, HasType, Borrows, borrows, OperandBy, an_overwrite}
-use Rattle.ml_parser.specs.Readings.{IsRead, AreDeep, OneSuffix, one_field, Results, NoResults, NoBorrows, ClosesParens, closes_paren, closes_typed, NotClosed}
-use Rattle.ml_parser.proofs.Deep.{says, never, read_as}
+use Rattle.ml_parser.specs.Grammar.{Kind, ItemOf, more, past, to_next, Lists, ItemBy, ReadsPattern, HasType, Borrows, borrows, OperandBy, an_overwrite, seq, Reads, ConBy, a_block, a_cell}
+use Rattle.ml_parser.specs.Readings.{IsRead, AreDeep, OneSuffix, one_field, Results, NoResults, NoBorrows, ClosesParens, closes_paren, closes_typed, NotClosed, Until, until, Behind, behind_it}
+use Rattle.ml_parser.proofs.Deep.{Along, along, deep_along, deep_at, says, never, read_as}
+use Rattle.ml_parser.proofs.Unique.{same}
 use Rattle.ml_parser.proofs.Items.{ListSoFar, list_step, list_done, no_result_equal, result_no_type, result_not_equal}
 
 -- a token that stands at a place, is passed, and gives its span
@@ -163,3 +164,50 @@ list_goes {text} {k} {start} {ts} {us} {vs} {done} {xs} {x} {depth} {dx} i y m f
 
 pub list_read : {text : List ℕ} {k : Kind} {start ts us r : List Token} {done xs : List (ItemOf k)} {x : ItemOf k} {depth dx d left : ℕ} → ListSoFar text k start done depth ts → depth ≤ left → IsRead (ItemBy text k ts) left x dx us → more k us ≡ false → r ≡ past k us → xs ≡ done ++ (x ∷ []) → d ≡ max depth dx → IsRead (Lists text k start) left xs d r
 list_read {r = r} i l y m f g h = let n = y.small in read_as r (list_done i y.reads m f) g h (omega arith)
+
+-- a constructor with its argument, by its first token
+
+pub con_read : {text : List ℕ} {f : Front} {ts r : List Token} {e : Expr} {d left : ℕ} → f ≡ front ts → IsRead (ConBy text f ts) left e d r → IsRead (ConBy text (front ts) ts) left e d r
+con_read {text} {f} {ts} {r} {e} {d} {left} q i = subst (λ f. IsRead (ConBy text f ts) left e d r) q i
+
+pub con_deep : {text : List ℕ} {f : Front} {ts : List Token} {left : ℕ} → f ≡ front ts → AreDeep (ConBy text f ts) left → AreDeep (ConBy text (front ts) ts) left
+con_deep {text} {f} {ts} {left} q i = subst (λ f. AreDeep (ConBy text f ts) left) q i
+
+con_front : {text : List ℕ} {f : Front} {ts r : List Token} {e : Expr} {d : ℕ} → ConBy text f ts e d r → (f ≡ F.Upper → ⊥) → (f ≡ F.OpenParen → ⊥) → ⊥
+con_front (a_block x) n m = n refl
+con_front (a_cell x p y q) n m = m refl
+
+pub no_con : {text : List ℕ} {ts : List Token} {left : ℕ} → front ts ≢ F.Upper → front ts ≢ F.OpenParen → AreDeep (ConBy text (front ts) ts) left
+no_con n m = never (λ e d r x. con_front x n m)
+
+-- a sequence and the token behind it, or the one before it
+
+pub until_read : {text : List ℕ} {end : Front} {ts us r : List Token} {e : Expr} {d left : ℕ} → IsRead (Reads text seq ts) left e d us → front us ≡ end → r ≡ drop 1 us → IsRead (Until text end ts) left e d r
+until_read {text} {end} {ts} {us} {r} {e} {d} i p f = record { reads = subst (λ r. Until text end ts e d r) (sym f) (until i.reads p); small = i.small }
+
+pub until_deep : {text : List ℕ} {end : Front} {ts : List Token} {left : ℕ} → AreDeep (Reads text seq ts) left → AreDeep (Until text end ts) left
+until_deep {text} {end} {ts} h = deep_along (λ e d r x. inner x) h
+  where
+    inner : {e : Expr} {d : ℕ} {r : List Token} → Until text end ts e d r → Along (Reads text seq ts) d
+    inner (until x p) = along _ _ _ x (omega arith)
+
+pub until_other : {text : List ℕ} {end : Front} {ts us : List Token} {e : Expr} {d left : ℕ} → Reads text seq ts e d us → front us ≢ end → AreDeep (Until text end ts) left
+until_other {text} {end} {ts} {us} {e} {d} x n = never (λ e d r y. inner y)
+  where
+    inner : {e : Expr} {d : ℕ} {r : List Token} → Until text end ts e d r → ⊥
+    inner (until y p) = n (ap front (sym (same x y).rest) ∙ p)
+
+pub behind_read : {text : List ℕ} {start : Front} {ts us r : List Token} {e : Expr} {d left : ℕ} → front ts ≡ start → us ≡ drop 1 ts → IsRead (Reads text seq us) left e d r → IsRead (Behind text start ts) left e d r
+behind_read {text} {start} {ts} {us} {r} {e} {d} p f i = record { reads = behind_it p (subst (λ us. Reads text seq us e d r) f i.reads); small = i.small }
+
+pub behind_deep : {text : List ℕ} {start : Front} {ts us : List Token} {left : ℕ} → us ≡ drop 1 ts → AreDeep (Reads text seq us) left → AreDeep (Behind text start ts) left
+behind_deep {text} {start} {ts} e h = deep_along (λ y d r x. inner x) (deep_at (Reads text seq) e h)
+  where
+    inner : {y : Expr} {d : ℕ} {r : List Token} → Behind text start ts y d r → Along (Reads text seq (drop 1 ts)) d
+    inner (behind_it p x) = along _ _ _ x (omega arith)
+
+pub behind_other : {text : List ℕ} {start : Front} {ts : List Token} {left : ℕ} → front ts ≢ start → AreDeep (Behind text start ts) left
+behind_other {text} {start} {ts} n = never (λ e d r x. inner x)
+  where
+    inner : {e : Expr} {d : ℕ} {r : List Token} → Behind text start ts e d r → ⊥
+    inner (behind_it p x) = n p
