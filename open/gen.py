@@ -84,4 +84,8 @@ if not whole:
         shutil.rmtree(scratch+'/'+d,ignore_errors=True); shutil.copytree(here+'/../crates/ml_parser/'+d,scratch+'/'+d)
     for d in ('+expressions','laws'): shutil.rmtree(scratch+'/proofs/'+d,ignore_errors=True)
     # answers of single readers: proofs/FILE/READER/*.antt
-    if os.path.isdir(here+'/proofs'): shutil.copytree(here+'/proofs',scratch+'/proofs',dirs_exist_ok=True)
+    shutil.copytree(here+'/crate',scratch,dirs_exist_ok=True)
+    for root,_,fs in os.walk(here+'/proofs'):
+        n=os.path.basename(root)
+        if fs and (n in targets or n not in cyc):
+            shutil.copytree(root,scratch+'/proofs/'+os.path.relpath(root,here+'/proofs'),dirs_exist_ok=True)

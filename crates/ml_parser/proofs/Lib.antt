@@ -1,7 +1,6 @@
 mod Accepts
 mod Atoms
 mod Deep
-mod Handed
 mod Growth
 mod Items
 mod Levels

@@ -197,8 +197,3 @@ items_done {text} {start} {ts} {done} {depth} s e f = record {
   small = s.small;
   program_is = f;
 }
-
--- the same, with their depth
-pub record ItemsUpTo (text : List ℕ) (start : List Token) (done : List Item) (ts : List Token) : Type 0 where
-  pub depth : ℕ
-  pub so_far : ItemsSoFar text start done depth ts

@@ -55,13 +55,3 @@ pub record Derives (text : List ℕ) (ts : List Token) (program : Program) : Typ
   pub reads : AreItems text ts items depth
   pub small : depth ≤ 1000
   pub program_is : program ≡ numbered items
-
--- an item of at most the greatest depth was read
-pub record IsItem (text : List ℕ) (lead : ItemLead) (ts rest : List Token) (i : Item) : Type 0 where
-  pub depth : ℕ
-  pub reads : AnItemBy text lead ts i depth rest
-  pub small : depth ≤ 1000
-
--- the tokens are no program
-pub record NoProgram (text : List ℕ) (ts : List Token) : Type 0 where
-  pub none : (p : Program) → Derives text ts p → ⊥

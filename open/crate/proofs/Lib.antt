@@ -1,0 +1,13 @@
+mod Accepts
+mod Atoms
+mod Deep
+mod Handed
+mod Growth
+mod Items
+mod Levels
+mod OpenForms
+mod Programs
+mod Shorter
+mod Unique
+mod Ranks
+mod Refused
