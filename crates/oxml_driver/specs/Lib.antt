@@ -1,8 +1,8 @@
 pub mod Build
 pub mod Command
+pub mod Form
 pub mod Lines
 pub mod Printer
-pub mod Reading
 pub mod Said
 pub mod Source
 pub mod Words
