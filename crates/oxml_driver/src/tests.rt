@@ -338,7 +338,7 @@ const CASES: [Case<'static>; 16] = [
         words: &["build", "cut.ml", "-o", "a"],
         fail: (&[], &[]),
         status: 1,
-        err: b"cut.ml:2:8: rule 10: syntax\n",
+        err: b"cut.ml:2:9: rule 10: syntax\n",
     },
     Case {
         words: &["build", "tokens.ml", "-o", "a"],
