@@ -1,0 +1,5 @@
+-- stub
+use Rattle.std.specs.Prelude.{ℕ, List, codes}
+
+abbrev pub prelude : List ℕ
+prelude = codes ";;"
