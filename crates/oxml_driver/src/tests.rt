@@ -131,7 +131,7 @@ fn refused(rule: Rule, start: u32, end: u32) -> Option<CompileErr> {
 
 #[test]
 fn the_first_refusal_in_order_is_named(rt: HostRuntime) -> Result<(), Fail> {
-    let cases: [(&[u8], Rule, u32, u32); 24] = [
+    let cases: [(&[u8], Rule, u32, u32); 26] = [
         // lexical faults come before all others
         (b"let () = () (* cut", Rule::OpenComment, 12, 14),
         (
@@ -142,7 +142,9 @@ fn the_first_refusal_in_order_is_named(rt: HostRuntime) -> Result<(), Fail> {
         ),
         (b"let let \"", Rule::OpenText, 8, 9),
         (b"let () = print_int 1 #", Rule::OutsideAlphabet, 21, 22),
-        (b"let () = \"\\q\"", Rule::BadEscape, 10, 12),
+        (b"let () = print_string \"\\q\"", Rule::BadEscape, 23, 25),
+        (b"let () = print_string \"a", Rule::OpenText, 22, 23),
+        (b"let f x =\n  x (1 +", Rule::Syntax, 18, 18),
         // then the syntax, before the form
         (b"let () = print_int 1 let", Rule::Syntax, 24, 24),
         (b"let () = print_int 1 )", Rule::Syntax, 21, 22),
