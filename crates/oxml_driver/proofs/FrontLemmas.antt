@@ -5,15 +5,14 @@ use Rattle.oxml_base.specs.declared.refusal.Limit.TheVariants.{Tokens}
 use Rattle.oxml_base.specs.declared.refusal.Refusal.{Refusal}
 use Rattle.oxml_base.specs.declared.rule.Rule.TheVariants.{LeftOut as FormLeftOut, Syntax}
 use Rattle.oxml_base.specs.declared.span.Span.{Span}
-use Rattle.ml_parser.specs.Derives.{HasNoTree}
-use Rattle.ml_parser.specs.Prelude.{prelude}
+use Rattle.oxml_driver.specs.Prelude.{prelude}
 use Rattle.ml_tree.specs.declared.program.Program.{Program}
 use Rattle.oxml_driver.specs.Form.{LeftOut}
 use Rattle.ml_lexer.specs.declared.token.Token.{Token}
 use Rattle.oxml_driver.specs.declared.compile.CompileErr.{CompileErr}
 use Rattle.oxml_driver.specs.declared.compile.CompileErr.TheVariants.{Refused, Limit, NoMemory}
 use Rattle.oxml_driver.specs.Build.{IsRefused, NotCompiled, Passes, bytes, tokens, lexical, syntax_error, form, most_bytes}
-use Rattle.oxml_driver.specs.Source.{AreTokens, IsProgram, HasTokens, HasTooMany, IsTooMany, IsFaulty, LexFails, program_text, file_part, built_in_part, in_file, in_built_in, most_tokens}
+use Rattle.oxml_driver.specs.Source.{AreTokens, HasNoTree, IsProgram, HasTokens, HasTooMany, IsTooMany, IsFaulty, LexFails, program_text, file_part, built_in_part, in_file, in_built_in, most_tokens}
 
 passes : (source : List ℕ) (limit : Passed) (span : Option Span) → length source ≤ most_bytes → IsTooMany source → limit ≡ Tokens (most_tokens + 1) → span ≡ None → Passes source limit × (span ≡ None)
 passes source limit span short many is none = (subst (λ l. Passes source l) (sym is) (tokens short many), none)

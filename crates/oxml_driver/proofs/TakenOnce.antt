@@ -7,7 +7,7 @@ use Rattle.ml_lexer.specs.declared.token.Token.{Token}
 use Rattle.ml_lexer.proofs.Unique.{one_list, never_both, no_more_tokens, no_more_before_fault}
 use Rattle.ml_tree.specs.declared.program.Item.{Item}
 use Rattle.ml_tree.specs.declared.program.Program.{Program}
-use Rattle.ml_parser.specs.Derives.{Derives}
+use Rattle.ml_parser.specs.Programs.{Derives}
 use Rattle.ml_parser.proofs.Unique.{one_program}
 use Rattle.oxml_driver.specs.Build.{IsRefused, Passes, PrintsTexts, Violates, lexical, syntax_error, form, bytes, tokens, most_bytes}
 use Rattle.oxml_driver.specs.Form.{IsOfFile, IsLeftOut, ItemPrints, LeftOut, PrintTexts, PrintsText, built_in, prints, nothing, item_and, here, behind}

@@ -2,6 +2,7 @@ pub mod Build
 pub mod Command
 pub mod Form
 pub mod Lines
+pub mod Prelude
 pub mod Printer
 pub mod Said
 pub mod Source

@@ -6,8 +6,8 @@ use Rattle.oxml_base.specs.declared.refusal.Refusal.{Refusal}
 use Rattle.ml_lexer.specs.declared.token.Token.{Token}
 use Rattle.ml_lexer.specs.Tokens.{Tokens as Divides, IsBad, StartsWith}
 use Rattle.ml_tree.specs.declared.program.Program.{Program}
-use Rattle.ml_parser.specs.Derives.{Derives, HasNoTree}
-use Rattle.ml_parser.specs.Prelude.{prelude}
+use Rattle.ml_parser.specs.Programs.{Derives}
+use Rattle.oxml_driver.specs.Prelude.{prelude}
 use Rattle.oxml_driver.specs.declared.compile.CompileErr.{CompileErr}
 use Rattle.oxml_driver.specs.declared.compile.CompileErr.TheVariants.{Refused, Limit, NoMemory}
 
@@ -67,6 +67,10 @@ pub data IsTooMany (source : List ℕ) : Type 0 where
   in_file : HasTooMany (program_text source) (file_part source) → IsTooMany source
   in_built_in : {file : List Token} → HasTokens (program_text source) (file_part source) file →
       HasTooMany (program_text source) (built_in_part source) → IsTooMany source
+
+-- the tokens have no tree
+abbrev pub HasNoTree : List ℕ → List Token → Type 0
+HasNoTree text tokens = (program : Program) → Derives text tokens program → ⊥
 
 -- the program of the source
 pub record IsProgram (source : List ℕ) (program : Program) : Type 0 where

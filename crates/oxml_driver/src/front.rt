@@ -1,13 +1,13 @@
 //! From the bytes of a source to its program.
 ghost use Rattle.std.specs.Prelude.{◌≡◌, ◌+◌, ◌++◌, ◌≤◌, IfErr, IfOk, List, length, All};
 ghost use Rattle.ml_lexer.specs.Tokens.{IsSound};
-ghost use Rattle.ml_parser.specs.Prelude.{prelude};
+ghost use Rattle.oxml_driver.specs.Prelude.{prelude};
 ghost use Rattle.oxml_driver.specs.Build.{NotCompiled, most_bytes};
 ghost use Rattle.oxml_driver.specs.Source.{AreTokens, HasTokens, IsProgram, LexFails, built_in_part, file_part, program_text};
 
 use crate::compile::CompileErr;
 use ml_lexer::{LexErr, Token, lex};
-use ml_parser::{ParseErr, parse, prelude};
+use ml_parser::{PRELUDE, ParseErr, parse};
 use ml_tree::Program;
 use oxml_base::{Items, NoMemory, Span};
 use std::alloc::Global;
@@ -19,7 +19,7 @@ pub fn program_text(alloc: Global, source: &[u8]) -> Result<Vec<u8>, NoMemory>
 {
     let mut text = Vec::new(alloc);
     text.extend_from_slice(source)?;
-    text.extend_from_slice(prelude())?;
+    text.extend_from_slice(PRELUDE)?;
     Ok(text)
 }
 
