@@ -1,0 +1,5 @@
+pub mod Names
+pub mod Chains
+pub mod Journal
+pub mod Shapes
+pub mod Types
