@@ -1,9 +1,12 @@
 //! The scope of names: what each use of a name stands for.
 #![tactic(auto)]
 
+mod binder;
 mod found;
+mod journal;
 mod known;
 mod meaning;
 mod scope;
 mod shape;
 mod types;
+mod uses;
