@@ -5,3 +5,5 @@ pub mod Shapes
 pub mod Types
 pub mod Uses
 pub mod Patterns
+pub mod Binding
+pub mod Expressions

@@ -23,3 +23,17 @@ fills parts Other = false
 abbrev pub miscounts : ℕ → Option Shape → Bool
 miscounts parts None = not (parts == 0)
 miscounts parts (Some shape) = not (parts == 1) && ((parts == 0) || not (fills parts shape))
+
+abbrev pub is_name : Shape → Bool
+is_name Name = true
+is_name (Tuple n) = false
+is_name Any = false
+is_name Function = false
+is_name Other = false
+
+abbrev pub is_fun : Shape → Bool
+is_fun Function = true
+is_fun (Tuple n) = false
+is_fun Any = false
+is_fun Name = false
+is_fun Other = false

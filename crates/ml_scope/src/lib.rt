@@ -2,9 +2,11 @@
 #![tactic(auto)]
 
 mod binder;
+mod binding;
 mod found;
 mod journal;
 mod known;
+mod patterns;
 mod meaning;
 mod scope;
 mod shape;

@@ -1,6 +1,6 @@
 //! What a construct sees of its operand.
 ghost use Rattle.std.specs.Prelude.{◌≡◌};
-ghost use Rattle.ml_scope.specs.Shapes.{fills, miscounts};
+ghost use Rattle.ml_scope.specs.Shapes.{fills, miscounts, is_name, is_fun};
 
 /// What a construct sees of its operand. Parentheses hide no tuple, `_` and function, but a name.
 #[derive(Clone, Copy, Debug, PartialEq, Eq)]
@@ -25,6 +25,18 @@ impl Shape {
             Shape::Name => Shape::Other,
             _ => self,
         }
+    }
+
+    pub fn is_name(self) -> bool
+        ensures { result ≡ is_name self }
+    {
+        matches!(self, Shape::Name)
+    }
+
+    pub fn is_function(self) -> bool
+        ensures { result ≡ is_fun self }
+    {
+        matches!(self, Shape::Function)
     }
 
     /// Whether an operand gives a constructor of `parts` fields, two or more, all of them.
