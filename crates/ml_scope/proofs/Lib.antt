@@ -1,2 +1,4 @@
 pub mod Tables
 pub mod Layers
+pub mod Leaving
+pub mod ExpressionLayers

@@ -19,7 +19,7 @@ use Rattle.ml_tree.specs.declared.expr.ExprKind.TheOpen as e
 use Rattle.ml_tree.specs.declared.expr.ExprKind.TheOpen.{ExprKind-F, Arm-F, Bind-F, Expr-F, FieldExpr-F}
 use Rattle.ml_scope.specs.declared.binder.Binder.{Binder}
 use Rattle.ml_scope.specs.declared.shape.Shape.{Shape}
-use Rattle.ml_scope.specs.declared.shape.Shape.TheVariants.{Tuple, Any, Function, Name, Other}
+use Rattle.ml_scope.specs.declared.shape.Shape.TheVariants.{Tuple, Function, Other}
 use Rattle.ml_scope.specs.declared.found.Found.TheVariants.{Names, Itself, Opens, Closes}
 use Rattle.ml_scope.specs.Names.{Known, Env, Name, spelling}
 use Rattle.ml_scope.specs.Journal.{Journal, add, offence, offence_where, each, perhaps}
@@ -85,9 +85,12 @@ module _ (k : Known) where
   abbrev pub function_look : ℕ → List Param → Option TyExpr → (Env → Journal → Journal) → Env → Journal → Journal
   function_look id params result body env js = add (body (bound k false (param_names params) env) (function_head id params result js)) Closes
 
-  -- a value that is no function with parameters; one that is recursive and `fun` or `function` is what its pattern names
+  -- up to a value that is no function with parameters; one that is recursive and `fun` or `function` is what its pattern names
+  abbrev pub plain_head : Bool → Pat → Option TyExpr → Shape → Journal → Journal
+  plain_head recursive pat result body js = annotation result (itself_where (recursive && is_function [] (pattern_seen k pat).shape body) pat.id js)
+
   abbrev pub plain_look : Bool → Pat → Option TyExpr → Seen → Env → Journal → Journal
-  plain_look recursive pat result body env js = body.look env (annotation result (itself_where (recursive && is_function [] (pattern_seen k pat).shape body.shape) pat.id js))
+  plain_look recursive pat result body env js = body.look env (plain_head recursive pat result body.shape js)
 
   -- what a binding binds its pattern to
   abbrev pub value_look : Bool → Pat → List Param → Option TyExpr → Seen → Env → Journal → Journal

@@ -1,5 +1,5 @@
 //! Adding to what a walk has found.
-ghost use Rattle.std.specs.Prelude.{◌≡◌, OnOk};
+ghost use Rattle.std.specs.Prelude.{◌≡◌, ◌&&◌, OnOk};
 ghost use Rattle.ml_scope.specs.Journal.{offence, offence_where};
 
 use crate::found::Found;
@@ -11,6 +11,13 @@ pub fn offence(rule: Rule, span: Span, journal: &mut Items<Found>) -> Result<(),
 {
     journal.push(Found::Offends(Refusal { rule, span }))?;
     Ok(())
+}
+
+/// Whether both hold.
+pub fn both(one: bool, other: bool) -> bool
+    ensures { result ≡ (one && other) }
+{
+    one && other
 }
 
 /// A violation of a rule, where it is one.

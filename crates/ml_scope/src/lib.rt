@@ -3,7 +3,9 @@
 
 mod binder;
 mod binding;
+mod expressions;
 mod found;
+mod functions;
 mod journal;
 mod known;
 mod patterns;
