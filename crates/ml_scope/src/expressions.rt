@@ -1,5 +1,5 @@
 //! What expressions use, in the scope in which they stand.
-ghost use Rattle.std.specs.Prelude.{◌≡◌, [], ◌&&◌, map, IfOk, OnOk};
+ghost use Rattle.std.specs.Prelude.{◌≡◌, [], false, map, OnOk};
 ghost use Rattle.std.specs.Option.{option_map};
 ghost use Rattle.ml_scope.specs.Journal.{each, perhaps};
 ghost use Rattle.ml_scope.specs.Binding.{bound};
