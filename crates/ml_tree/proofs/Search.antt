@@ -1,5 +1,5 @@
 -- What a binary search has shown: the numbers below one index are too small, and those from another on too great.
-use Rattle.std.proofs.Common.{◌≡◌, ◌<◌, ◌≤◌, ◌+◌, ℕ, List, Option, Some, slice_get, arith, subst, sym, ◌∙◌, ap, inl, inr}
+use Rattle.std.proofs.Common.{◌≡◌, ◌<◌, ◌≤◌, ◌+◌, ℕ, List, Some, slice_get, arith, subst, sym, inl, inr}
 use Rattle.std.proofs.Math.Nat.{eq-or-lt_of_le}
 use Rattle.std.proofs.Math.Decide.{dec_lt}
 use Rattle.ml_tree.specs.Rising.{Rises, Has}

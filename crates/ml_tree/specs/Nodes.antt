@@ -1,5 +1,5 @@
 -- How many nodes a tree has: its patterns and expressions, and the fields of its records.
-use Rattle.std.specs.Prelude.{ℕ, ◌+◌, sum, map, List, [], ◌∷◌, Option, Some, None}
+use Rattle.std.specs.Prelude.{ℕ, ◌+◌, sum, map, Option, Some, None}
 use Rattle.ml_tree.specs.declared.pattern.Pat.{Pat, fold-Pat}
 use Rattle.ml_tree.specs.declared.pattern.FieldPat.{FieldPat, fold-FieldPat}
 use Rattle.ml_tree.specs.declared.pattern.Param.{Param}

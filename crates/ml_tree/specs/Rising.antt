@@ -1,5 +1,5 @@
 -- Lists of pairs in the order of their numbers.
-use Rattle.std.specs.Prelude.{◌≡◌, ◌<◌, ◌≤◌, ℕ, List, Option, Some, slice_get}
+use Rattle.std.specs.Prelude.{◌≡◌, ◌<◌, ℕ, List, Some, slice_get}
 
 -- the numbers rise
 abbrev pub Rises : {A : Type 0} → List (ℕ × A) → Type 0

@@ -2,6 +2,7 @@
 #![tactic(auto)]
 
 mod count;
+mod depths;
 mod expr;
 mod pattern;
 mod program;
@@ -11,6 +12,7 @@ mod types;
 mod words;
 
 pub use count::nodes;
+pub use depths::depth;
 pub use expr::{Arm, BinOp, Bind, Expr, ExprKind, FieldExpr};
 pub use pattern::{ConName, FieldPat, Param, Pat, PatKind};
 pub use program::{Item, ItemKind, Program};

@@ -1,5 +1,5 @@
 use Rattle.std.proofs.Common.{◌≡◌, ◌+◌, sum, map, drop}
-use Rattle.ml_tree.specs.Nodes.{pattern_nodes, field_pattern_nodes, param_nodes, expr_nodes, field_nodes, arm_nodes, bind_nodes}
+use Rattle.ml_tree.specs.Nodes.{expr_nodes, field_nodes, arm_nodes, bind_nodes}
 use Rattle.ml_tree.proofs.count.+nodes.Given as goal
 
 abbrev pub invariant-of_expressions-loop-one : goal.invariant-of_expressions-loop-one
