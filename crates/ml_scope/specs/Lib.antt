@@ -7,3 +7,6 @@ pub mod Uses
 pub mod Patterns
 pub mod Binding
 pub mod Expressions
+pub mod Items
+pub mod Readings
+pub mod Resolving

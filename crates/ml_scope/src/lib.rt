@@ -3,14 +3,24 @@
 
 mod binder;
 mod binding;
+mod captures;
+mod declarations;
 mod expressions;
 mod found;
 mod functions;
+mod items;
 mod journal;
 mod known;
-mod patterns;
 mod meaning;
+mod offences;
+mod patterns;
+mod references;
+mod resolve;
 mod scope;
 mod shape;
 mod types;
 mod uses;
+mod world;
+
+pub use captures::MOST_CAPTURES;
+pub use resolve::{ScopeErr, resolve};
