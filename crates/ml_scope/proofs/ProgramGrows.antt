@@ -29,7 +29,7 @@ use Rattle.ml_scope.specs.Binding.{bound, twice}
 use Rattle.ml_scope.specs.Expressions.{bind_seen, bind_names, values_look, group_look}
 use Rattle.ml_scope.specs.Items.{con_look, field_look, body_look, lists, decl_look, variable, kind_item, item_look, start, program_look, with_types}
 use Rattle.ml_scope.specs.Readings.{with_reference, references, with_type_reference, type_references, with_variable, variable_place}
-use Rattle.ml_scope.specs.declared.resolve.Targets.{Targets}
+use Rattle.ml_scope.specs.declared.scoping.Targets.{Targets}
 use Rattle.ml_scope.specs.Resolving.{found_in, HasNames}
 use Rattle.ml_scope.proofs.Grows.{Adds, Grows, Sub, nothing, leaves, keeps, numbers, node_number, type_number, adds_none, adds_then, adds_quiet, adds_each, adds_all, adds_twice, grows_none, grows_then}
 use Rattle.ml_scope.proofs.TypeGrows.{type_grows, arg_grows}

@@ -4,9 +4,9 @@ use Rattle.oxml_base.specs.declared.refusal.Limit.TheVariants as Limits
 use Rattle.ml_tree.specs.declared.program.Program.{Program}
 use Rattle.ml_tree.specs.declared.program.Item.{Item}
 use Rattle.ml_tree.specs.declared.scoped.Scoped.{Scoped}
-use Rattle.ml_scope.specs.declared.resolve.ScopeErr.{ScopeErr}
-use Rattle.ml_scope.specs.declared.resolve.ScopeErr.TheVariants.{Refused, Limit as LimitPassed, NoMemory}
-use Rattle.ml_scope.specs.declared.resolve.Targets.{Targets}
+use Rattle.ml_scope.specs.declared.scoping.ScopeErr.{ScopeErr}
+use Rattle.ml_scope.specs.declared.scoping.ScopeErr.TheVariants.{Refused, Limit as LimitPassed, NoMemory}
+use Rattle.ml_scope.specs.declared.scoping.Targets.{Targets}
 use Rattle.ml_scope.specs.Journal.{Journal}
 use Rattle.ml_scope.specs.Items.{program_look}
 use Rattle.ml_scope.specs.Readings.{references, type_references, offences, IsFirst, captures}

@@ -15,12 +15,12 @@ mod meaning;
 mod offences;
 mod patterns;
 mod references;
-mod resolve;
 mod scope;
+mod scoping;
 mod shape;
 mod types;
 mod uses;
 mod world;
 
 pub use captures::MOST_CAPTURES;
-pub use resolve::{ScopeErr, resolve};
+pub use scoping::{ScopeErr, resolve};

@@ -31,7 +31,7 @@ pub struct Targets {
 }
 
 #[tactic(auto, using(crate::proofs::Firsts::first_is, crate::proofs::Firsts::none_is))]
-fn targets(alloc: Global, text: &[u8], items: &[Item]) -> Result<Targets, ScopeErr>
+fn found_names(alloc: Global, text: &[u8], items: &[Item]) -> Result<Targets, ScopeErr>
     ensures ok { IfOk result (HasNames text.now items.now) }
     ensures err { IfErr result (Explains text.now items.now) }
 {
@@ -67,7 +67,7 @@ pub fn resolve(alloc: Global, text: &[u8], p: Program) -> Result<Scoped, ScopeEr
     ensures ok { IfOk result (IsResolved text.now p) }
     ensures err { IfErr result (Explains text.now p.items) }
 {
-    match targets(alloc, text, p.items.as_slice()) {
+    match found_names(alloc, text, p.items.as_slice()) {
         Err(error) => Err(error),
         Ok(found) => Ok(Scoped::new(p, found.refs, found.types)),
     }
