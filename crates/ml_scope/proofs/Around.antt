@@ -1,5 +1,5 @@
 -- The functions around a use, walked from the innermost on.
-use Rattle.std.proofs.Common.{◌≡◌, ℕ, zero, suc, ◌+◌, ◌<◌, ◌≤◌, List, [], ◌∷◌, ◌++◌, Option, Some, None, Bool, true, false, ◌&&◌, not, nat_lt, if◌then◌else◌, refl, sym, ap, ◌∙◌, subst, arith, take, reverse, length, map, slice_index_or, length-append, inl, inr}
+use Rattle.std.proofs.Common.{◌≡◌, ℕ, zero, suc, ◌+◌, ◌<◌, ◌≤◌, List, [], ◌∷◌, ◌++◌, Option, Some, None, Bool, true, false, ◌&&◌, not, nat_lt, if◌then◌else◌, refl, sym, ap, ◌∙◌, subst, arith, take, drop, reverse, length, map, slice_index_or, length-append, inl, inr}
 use Rattle.std.specs.List.{list_any}
 use Rattle.std.proofs.lemmas.List.{reverse-append}
 use Rattle.std.proofs.lemmas.Bool.{cases_Bool}
@@ -47,3 +47,9 @@ capture_grows (Offends x) c = omega arith
 pub captures_grow : (js : Journal) (c : Captured) → length c.captures ≤ length (each (map with_capture js) c).captures
 captures_grow [] c = omega arith
 captures_grow (f ∷ js) c = omega (arith, capture_grows f c, captures_grow js (with_capture f c))
+
+pub opened : (around : List ℕ) (number : ℕ) → reverse (around ++ number ∷ []) ≡ number ∷ reverse around
+opened around number = reverse-append around (number ∷ [])
+
+pub closed : (old new : List ℕ) (number : ℕ) → old ≡ new ++ number ∷ [] → reverse new ≡ drop 1 (reverse old)
+closed old new number e = sym (ap (λ xs. drop 1 (reverse xs)) e ∙ ap (drop 1) (reverse-append new (number ∷ [])))

@@ -1,6 +1,5 @@
 //! The captures of functions.
-ghost use Rattle.std.specs.Prelude.{◌≡◌, ◌<◌, ◌≤◌, [], None, IfOk, OnOk, length, reverse};
-ghost use Rattle.std.specs.Bool.{OnTrue, OnFalse};
+ghost use Rattle.std.specs.Prelude.{◌≡◌, ◌<◌, ◌≤◌, ◌∷◌, [], None, true, false, drop, IfOk, OnOk, length, reverse};
 ghost use Rattle.ml_scope.specs.Readings.{used, with_capture, captures};
 
 use crate::found::Found;
@@ -59,6 +58,26 @@ fn use_name(
     Ok(())
 }
 
+/// A function begins.
+#[tactic(auto, using(crate::proofs::Around::opened))]
+fn open(around: &mut Items<u32>, number: u32) -> Result<(), NoMemory>
+    ensures { OnOk result (reverse around.new ≡ number ∷ reverse around.old) }
+{
+    around.push(number)?;
+    Ok(())
+}
+
+/// The innermost function ends.
+#[tactic(auto, using(crate::proofs::Around::closed))]
+fn close(around: &mut Items<u32>)
+    ensures { reverse around.new ≡ drop 1 (reverse around.old) }
+{
+    match around.pop() {
+        None => {}
+        Some(_) => {}
+    }
+}
+
 impl Capturing {
     fn new(alloc: Global) -> Capturing
         ensures { result ≡ record { around = []; itself = None; captures = [] } }
@@ -85,12 +104,12 @@ impl Capturing {
                 Ok(())
             }
             Found::Opens(node) => {
-                self.around.push(self.itself.unwrap_or(node))?;
+                open(&mut self.around, self.itself.unwrap_or(node))?;
                 self.itself = None;
                 Ok(())
             }
             Found::Closes => {
-                self.around.pop();
+                close(&mut self.around);
                 Ok(())
             }
             Found::Names(_, Ref::Local(binder)) => {
@@ -104,8 +123,8 @@ impl Capturing {
 /// Whether the functions of a program have more captures together than they may.
 #[tactic(auto, using(crate::proofs::Around::captures_grow))]
 pub fn too_many_captures(alloc: Global, journal: &[Found]) -> Result<bool, NoMemory>
-    ensures many { IfOk result (λ many. OnTrue many (100000 < length (captures journal.now))) }
-    ensures few { IfOk result (λ many. OnFalse many (length (captures journal.now) ≤ 100000)) }
+    ensures many { IfOk result (λ many. many ≡ true → 100000 < length (captures journal.now)) }
+    ensures few { IfOk result (λ many. many ≡ false → length (captures journal.now) ≤ 100000) }
 {
     let mut capturing = Capturing::new(alloc);
     for found in journal {

@@ -1,5 +1,5 @@
 //! What declarations declare and use.
-ghost use Rattle.std.specs.Prelude.{◌≡◌, [], map, IfOk, OnOk, length};
+ghost use Rattle.std.specs.Prelude.{◌≡◌, ◌+◌, [], map, IfOk, OnOk, length};
 ghost use Rattle.ml_scope.specs.Journal.{each};
 ghost use Rattle.ml_scope.specs.Types.{arg_look};
 ghost use Rattle.ml_scope.specs.Items.{field_at, with_types, constructors_from, fields_from, body_constructors, body_fields, with_constructors, with_fields, variable, con_look, field_look, body_look, lists, decl_look};

@@ -42,12 +42,11 @@ fn found_names(alloc: Global, text: &[u8], items: &[Item]) -> Result<Targets, Sc
     if let Some(refusal) = first_offence(journal) {
         return Err(ScopeErr::Refused(refusal));
     }
-    match too_many_captures(alloc, journal) {
-        Ok(false) => {}
-        Ok(true) => {
-            return Err(ScopeErr::Limit(Limit::Captures(MOST_CAPTURES as u64 + 1)));
-        }
-        Err(_) => return Err(ScopeErr::NoMemory),
+    let Ok(many) = too_many_captures(alloc, journal) else {
+        return Err(ScopeErr::NoMemory)
+    };
+    if many {
+        return Err(ScopeErr::Limit(Limit::Captures(MOST_CAPTURES as u64 + 1)));
     }
     let Ok(refs) = references(alloc, journal) else {
         return Err(ScopeErr::NoMemory)
