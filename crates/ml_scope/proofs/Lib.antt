@@ -9,3 +9,4 @@ pub mod TypeGrows
 pub mod PatternGrows
 pub mod ExpressionGrows
 pub mod ProgramGrows
+pub mod Targets

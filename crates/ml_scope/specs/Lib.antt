@@ -10,3 +10,4 @@ pub mod Expressions
 pub mod Items
 pub mod Readings
 pub mod Resolving
+pub mod FreeNames

@@ -7,6 +7,7 @@ mod captures;
 mod declarations;
 mod expressions;
 mod found;
+mod free;
 mod functions;
 mod items;
 mod journal;
@@ -18,9 +19,12 @@ mod references;
 mod scope;
 mod scoping;
 mod shape;
+#[cfg(test)]
+mod tests;
 mod types;
 mod uses;
 mod world;
 
 pub use captures::MOST_CAPTURES;
+pub use free::free_names;
 pub use scoping::{ScopeErr, resolve};
