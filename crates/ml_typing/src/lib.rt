@@ -3,7 +3,9 @@
 #![tactic(auto)]
 
 mod crossing;
+mod equation;
 mod typed;
 
 pub use crossing::Cross;
+pub use equation::{Equation, Step, Term, Unknown};
 pub use typed::Typed;
