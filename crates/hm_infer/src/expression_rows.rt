@@ -1,5 +1,8 @@
 //! The equations of an expression's own row.
-ghost use Rattle.std.specs.Prelude.{◌≡◌, [], ◌∷◌, ◌++◌, IfOk, None, Some};
+ghost use Rattle.std.specs.Prelude.{◌≡◌, [], ◌∷◌, ◌++◌, IfOk};
+ghost use Rattle.ml_typing.specs.declared.equation.Unknown.TheVariants.{Node};
+ghost use Rattle.ml_typing.specs.Rows.{equation};
+ghost use Rattle.ml_typing.specs.Steps.{operator};
 
 use crate::patterns::types_of;
 use crate::rows::{argument, con_term, field_term, name_term, record_term};
@@ -99,7 +102,9 @@ pub fn row(alloc: Global, s: &Scoped, item: u32, e: &Expr) -> Result<Items<Equat
 }
 
 /// One equation more: the type of a part.
-fn part_is(list: Items<Equation>, e: &Expr, right: Term) -> Result<Items<Equation>, NoMemory> {
+fn part_is(list: Items<Equation>, e: &Expr, right: Term) -> Result<Items<Equation>, NoMemory>
+    ensures { IfOk result (λ es. es ≡ list ++ equation e.now.span (Node e.now.id) right ∷ []) }
+{
     and(list, e.span, Unknown::Node(e.id), right)
 }
 
@@ -163,7 +168,9 @@ fn apply_row(
 }
 
 /// The type of the operands of an operator, and that of its result.
-fn operator(alloc: Global, n: u32, op: BinOp) -> Result<(Term, Term, Term), NoMemory> {
+fn operator(alloc: Global, n: u32, op: BinOp) -> Result<(Term, Term, Term), NoMemory>
+    ensures { IfOk result (λ r. r ≡ ((operator op).result n, (operator op).operand n, (operator op).operand n)) }
+{
     match op {
         BinOp::Add
         | BinOp::Sub
@@ -195,7 +202,9 @@ fn binary_row(
     op: BinOp,
     left: &Expr,
     right: &Expr,
-) -> Result<Items<Equation>, NoMemory> {
+) -> Result<Items<Equation>, NoMemory>
+    ensures { IfOk result (λ es. es ≡ equation e.now.span (Node e.now.id) ((operator op).result e.now.id) ∷ equation left.now.span (Node left.now.id) ((operator op).operand e.now.id) ∷ equation right.now.span (Node right.now.id) ((operator op).operand e.now.id) ∷ []) }
+{
     let (result, first, second) = operator(alloc, e.id, op)?;
     let own = one(alloc, e.span, Unknown::Node(e.id), result)?;
     let both = part_is(own, left, first)?;

@@ -1,6 +1,4 @@
 //! The steps of expressions: those of an expression's parts from left to right, then its own.
-ghost use Rattle.std.specs.Prelude.{◌≡◌, [], ◌∷◌, ◌++◌, OnOk, IfOk, None, Some};
-
 use crate::expression_rows::row;
 use crate::patterns::{field_step, pattern, push, types_of};
 use crate::terms::{node, one};

@@ -1,6 +1,4 @@
 //! The steps of items, and the names that they bind.
-ghost use Rattle.std.specs.Prelude.{◌≡◌, IfOk};
-
 use crate::expressions::binds;
 use crate::patterns::push;
 use ml_tree::{Bind, FieldPat, Item, ItemKind, Pat, PatKind, Scoped};

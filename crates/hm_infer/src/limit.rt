@@ -14,6 +14,7 @@ use oxml_base::NoMemory;
 use std::alloc::Global;
 
 /// A solver before the first item.
+#[tactic(auto, using(crate::proofs::Tables::table_same))]
 pub fn first_solver(alloc: Global, table: &TyTable) -> Result<Solver, NoMemory>
     requires { IsTable table.now.nodes }
 {

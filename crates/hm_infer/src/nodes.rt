@@ -63,6 +63,16 @@ pub fn part(node: &TyNode, at: usize) -> Option<TyId>
     }
 }
 
+/// How many parts a node has.
+pub fn part_count(node: &TyNode) -> usize {
+    match node {
+        TyNode::Var(_) => 0,
+        TyNode::Con(_, parts) => parts.len(),
+        TyNode::Tuple(parts) => parts.len(),
+        TyNode::Arrow { .. } => 2,
+    }
+}
+
 /// A node equal to another.
 fn copy_of(alloc: Global, node: &TyNode) -> Result<TyNode, NoMemory>
     ensures { IfOk result (λ n. n ≡ node.now) }
@@ -86,8 +96,10 @@ pub fn copy_table(alloc: Global, table: &TyTable) -> Result<TyTable, NoMemory>
     ensures { IfOk result (λ t. t.nodes ≡ table.now.nodes) }
 {
     let mut nodes = Items::new(alloc);
-    for node in table.nodes.as_slice() {
-        nodes.push(copy_of(alloc, node)?)?;
+    let list = table.nodes.as_slice();
+    for node in list {
+        let copy = copy_of(alloc, node)?;
+        nodes.push(copy)?;
     }
     Ok(TyTable { nodes })
 }

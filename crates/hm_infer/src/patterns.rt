@@ -1,5 +1,8 @@
 //! The steps of patterns: those of a pattern's parts from left to right, then its own.
-ghost use Rattle.std.specs.Prelude.{◌≡◌, [], ◌∷◌, ◌++◌, OnOk, IfOk, None, Some};
+ghost use Rattle.std.specs.Prelude.{◌≡◌, [], ◌∷◌, ◌++◌, OnOk, IfOk};
+ghost use Rattle.ml_typing.specs.declared.equation.Unknown.TheVariants.{Node};
+ghost use Rattle.ml_typing.specs.declared.equation.Term.TheVariants.{Of};
+ghost use Rattle.ml_typing.specs.Rows.{equation};
 
 use crate::rows::{argument, con_term, field_term, record_term};
 use crate::terms::{and, char, fresh, int, list_of, node, one, string};
@@ -15,7 +18,9 @@ pub fn push(
     span: Span,
     node: Option<u32>,
     equations: Items<Equation>,
-) -> Result<(), NoMemory> {
+) -> Result<(), NoMemory>
+    ensures { OnOk result (steps.new ≡ steps.old ++ record { span = span; node = node; equations = equations; compared = Option.None } ∷ []) }
+{
     steps.push(Step {
         span,
         node,
@@ -119,7 +124,9 @@ pub fn field_step(
     inner: u32,
     span: Span,
     steps: &mut Items<Step>,
-) -> Result<(), NoMemory> {
+) -> Result<(), NoMemory>
+    ensures { OnOk result (steps.new ≡ steps.old ++ record { span = record { start = name.start; «end» = span.«end» }; node = Option.Some id; equations = equation span (Node id) (Of (Node inner)) ∷ []; compared = Option.None } ∷ []) }
+{
     let own = one(alloc, span, Unknown::Node(id), node(inner))?;
     let whole = Span {
         start: name.start,
@@ -177,7 +184,9 @@ fn row(alloc: Global, s: &Scoped, item: u32, q: &Pat) -> Result<Items<Equation>,
 }
 
 /// One equation more: the type of a part.
-fn part_is(list: Items<Equation>, q: &Pat, right: Term) -> Result<Items<Equation>, NoMemory> {
+fn part_is(list: Items<Equation>, q: &Pat, right: Term) -> Result<Items<Equation>, NoMemory>
+    ensures { IfOk result (λ es. es ≡ list ++ equation q.now.span (Node q.now.id) right ∷ []) }
+{
     and(list, q.span, Unknown::Node(q.id), right)
 }
 

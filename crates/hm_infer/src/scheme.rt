@@ -1,6 +1,6 @@
 //! What an item leaves: the schemes of its names, the types of its nodes, and its comparisons.
 use crate::items::item_binders;
-use crate::nodes::part;
+use crate::nodes::{part, part_count};
 use crate::solver::Solver;
 use ml_tree::Item;
 use ml_types::{Scheme, TyId, TyNode};
@@ -102,11 +102,7 @@ fn push_parts(solver: &Solver, stack: &mut Vec<TyId>, id: TyId) -> Result<(), No
     let Some(node) = solver.head(id) else {
         return Err(NoMemory)
     };
-    let mut count = 0;
-    while part(node, count).is_some() {
-        count += 1;
-    }
-    for place in (0..count).rev() {
+    for place in (0..part_count(node)).rev() {
         if let Some(inner) = part(node, place) {
             stack.push(inner)?;
         }

@@ -1,8 +1,6 @@
 //! Terms as types of the bindings, and the equations of steps made to hold.
-ghost use Rattle.std.specs.Prelude.{◌≡◌, ℕ, ◌<◌, ◌+◌, length, IfOk, IsTrue, slice_get, Some};
-ghost use Rattle.ml_types.specs.declared.node.TyId.{TyId};
-ghost use Rattle.hm_unify.specs.States.{PartsWithin, IsTable};
-ghost use Rattle.hm_unify.specs.Closing.{PairsWithin};
+ghost use Rattle.std.specs.Prelude.{◌≡◌, length};
+ghost use Rattle.hm_unify.specs.States.{IsTable};
 
 use crate::nodes::{pairs_within, parts_within};
 use hm_unify::{Bindings, UnifyErr};

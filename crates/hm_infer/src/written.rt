@@ -1,7 +1,7 @@
 //! The terms of written types.
-ghost use Rattle.std.specs.Prelude.{◌≡◌, map, drop, ◌++◌, IfOk};
+ghost use Rattle.std.specs.Prelude.{◌≡◌, Some, map, IfOk};
 ghost use Rattle.ml_typing.specs.Written.{written, written_name};
-ghost use Rattle.ml_typing.specs.Typing.{names_of};
+ghost use Rattle.ml_typing.specs.Typing.{find, names_of};
 
 use ml_tree::{Scoped, TyExpr, TyKind, TyRef};
 use ml_typing::{Term, Unknown};
@@ -51,12 +51,23 @@ fn all_written(
     Ok(terms)
 }
 
-/// What a type expression names, at arguments.
-fn named(s: &Scoped, item: u32, id: u32, args: Items<Term>) -> Result<Term, NoMemory> {
+/// What a type expression names. Each that is a name or a variable has a reference.
+#[tactic(auto, using(crate::proofs::Lookups::find_has))]
+fn type_target(s: &Scoped, id: u32) -> Result<TyRef, NoMemory>
+    ensures { IfOk result (λ r. find s.now.types id ≡ Some r) }
+{
     match s.type_target(id) {
-        Some(TyRef::Decl(number)) => Ok(Term::Con(number, args)),
-        Some(TyRef::Var(number)) => Ok(Term::Of(Unknown::Fresh(item, number))),
-        // Each type expression that is a name or a variable has a reference.
+        Some(reference) => Ok(reference),
         None => Err(NoMemory),
+    }
+}
+
+/// What a type expression names, at arguments.
+fn named(s: &Scoped, item: u32, id: u32, args: Items<Term>) -> Result<Term, NoMemory>
+    ensures { IfOk result (λ t. t ≡ written_name (names_of s.now.refs s.now.types item) args (find s.now.types id)) }
+{
+    match type_target(s, id)? {
+        TyRef::Decl(number) => Ok(Term::Con(number, args)),
+        TyRef::Var(number) => Ok(Term::Of(Unknown::Fresh(item, number))),
     }
 }

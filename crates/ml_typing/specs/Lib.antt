@@ -5,3 +5,4 @@ pub mod Steps
 pub mod Typing
 pub mod Refusals
 pub mod Crossing
+pub mod Laws

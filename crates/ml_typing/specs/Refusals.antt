@@ -1,6 +1,6 @@
 -- Why a program has no types: the first step without a solution, the first whose most general solution
 -- makes a type too large, and the first comparison at a type that has none.
-use Rattle.std.specs.Prelude.{◌≡◌, ◌⊎◌, ℕ, ◌+◌, ◌<◌, ◌≤◌, List, [], ◌∷◌, ◌++◌, take, Option, Some, None, slice_get}
+use Rattle.std.specs.Prelude.{◌≡◌, ◌⊎◌, ℕ, ◌+◌, ◌<◌, ◌≤◌, List, [], ◌∷◌, ◌++◌, take, Some, slice_get}
 use Rattle.oxml_base.specs.declared.span.Span.{Span}
 use Rattle.ml_types.specs.Types.{Head, ConHead, Tree, Node, Trees, Nil, Cons, tree_size}
 use Rattle.ml_typing.specs.declared.equation.Unknown.{Unknown}

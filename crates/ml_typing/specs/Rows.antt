@@ -1,11 +1,13 @@
 -- The equations of each node, and the steps of patterns.
-use Rattle.std.specs.Prelude.{ℕ, ◌+◌, List, [], ◌∷◌, ◌++◌, map, Option, Some, None}
+use Rattle.std.specs.Prelude.{ℕ, List, [], ◌∷◌, ◌++◌, map, Option, Some, None}
 use Rattle.oxml_base.specs.declared.span.Span.{Span}
 use Rattle.ml_tree.specs.declared.reference.Ref.{Ref}
 use Rattle.ml_tree.specs.declared.reference.Ref.TheVariants as r
 use Rattle.ml_tree.specs.declared.pattern.ConName.{ConName}
 use Rattle.ml_tree.specs.declared.pattern.ConName.TheVariants.{Named, True, False, Unit, Nil}
 use Rattle.ml_tree.specs.declared.pattern.Pat.{Pat, fold-Pat}
+use Rattle.ml_tree.specs.declared.pattern.PatKind.{PatKind, fold-PatKind}
+use Rattle.ml_tree.specs.declared.pattern.FieldPat.{FieldPat, fold-FieldPat}
 use Rattle.ml_tree.specs.declared.pattern.PatKind.TheOpen as p
 use Rattle.ml_tree.specs.declared.pattern.PatKind.TheOpen.{PatKind-F, FieldPat-F, Pat-F}
 use Rattle.ml_typing.specs.declared.equation.Unknown.{Unknown}
@@ -186,3 +188,14 @@ pattern_whole q = part_of q.id q.span q.kind
 
 abbrev pub pattern : Names → Pat → Part
 pattern names q = fold-Pat Row FieldPart Part (pattern_row names) pattern_field pattern_whole q
+
+abbrev pub pattern_kind : Names → PatKind → Row
+pattern_kind names k = fold-PatKind Row FieldPart Part (pattern_row names) pattern_field pattern_whole k
+
+abbrev pub field_pattern : Names → FieldPat → FieldPart
+field_pattern names f = fold-FieldPat Row FieldPart Part (pattern_row names) pattern_field pattern_whole f
+
+-- the top pattern of an arm has, behind its own row, the type of the scrutinee
+abbrev pub scrutinee_is : Part → Option Unknown → List Equation
+scrutinee_is q None = []
+scrutinee_is q (Some u) = node_is q (t.Of u) ∷ []

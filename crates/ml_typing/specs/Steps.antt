@@ -1,5 +1,5 @@
 -- The steps of expressions, items and programs.
-use Rattle.std.specs.Prelude.{ℕ, zero, suc, ◌+◌, List, [], ◌∷◌, ◌++◌, map, length, Option, Some, None}
+use Rattle.std.specs.Prelude.{ℕ, ◌+◌, List, [], ◌∷◌, ◌++◌, map, Option, Some, None}
 use Rattle.oxml_base.specs.declared.span.Span.{Span}
 use Rattle.ml_tree.specs.declared.pattern.Param.{Param}
 use Rattle.ml_tree.specs.declared.pattern.Pat.{Pat, fold-Pat}
@@ -9,6 +9,9 @@ use Rattle.ml_tree.specs.declared.types.TyExpr.{TyExpr}
 use Rattle.ml_tree.specs.declared.expr.BinOp.{BinOp}
 use Rattle.ml_tree.specs.declared.expr.BinOp.TheVariants.{Add, Sub, Mul, Div, Mod, And, Or, Xor, Lsl, Lsr, Asr, Eq, Ne, Lt, Gt, Le, Ge, Append, Join, BoolAnd, BoolOr}
 use Rattle.ml_tree.specs.declared.expr.Expr.{Expr, fold-Expr}
+use Rattle.ml_tree.specs.declared.expr.ExprKind.{ExprKind, fold-ExprKind}
+use Rattle.ml_tree.specs.declared.expr.Arm.{Arm, fold-Arm}
+use Rattle.ml_tree.specs.declared.expr.FieldExpr.{FieldExpr, fold-FieldExpr}
 use Rattle.ml_tree.specs.declared.expr.Bind.{Bind, fold-Bind, out-Bind}
 use Rattle.ml_tree.specs.declared.expr.ExprKind.TheOpen as e
 use Rattle.ml_tree.specs.declared.expr.ExprKind.TheOpen.{ExprKind-F, Arm-F, Bind-F, Expr-F, FieldExpr-F}
@@ -181,6 +184,15 @@ expression names x = fold-Expr Row ArmPart BindPart Part FieldPart (expr_row nam
 
 abbrev pub bind : Names → Bind → BindPart
 bind names b = fold-Bind Row ArmPart BindPart Part FieldPart (expr_row names) (arm_part names) (bind_part names) expr_whole expr_field b
+
+abbrev pub expr_kind : Names → ExprKind → Row
+expr_kind names k = fold-ExprKind Row ArmPart BindPart Part FieldPart (expr_row names) (arm_part names) (bind_part names) expr_whole expr_field k
+
+abbrev pub arm : Names → Arm → ArmPart
+arm names a = fold-Arm Row ArmPart BindPart Part FieldPart (expr_row names) (arm_part names) (bind_part names) expr_whole expr_field a
+
+abbrev pub field_expr : Names → FieldExpr → FieldPart
+field_expr names f = fold-FieldExpr Row ArmPart BindPart Part FieldPart (expr_row names) (arm_part names) (bind_part names) expr_whole expr_field f
 
 -- the steps of an item: those of its binds, then its own
 abbrev pub kind_steps : Names → ItemKind → List Step

@@ -6,7 +6,6 @@ use Rattle.ml_tree.specs.declared.reference.TyRef.TheVariants.{Decl, Var}
 use Rattle.ml_tree.specs.declared.types.TyExpr.{TyExpr, fold-TyExpr}
 use Rattle.ml_tree.specs.declared.types.TyKind.TheOpen as k
 use Rattle.ml_tree.specs.declared.types.TyKind.TheOpen.{TyKind-F, Arg-F, TyExpr-F}
-use Rattle.ml_typing.specs.declared.equation.Unknown.{Unknown}
 use Rattle.ml_typing.specs.declared.equation.Unknown.TheVariants.{Fresh}
 use Rattle.ml_typing.specs.declared.equation.Term.{Term}
 use Rattle.ml_typing.specs.declared.equation.Term.TheVariants.{Of, Con, Tuple, Function}

@@ -20,33 +20,16 @@ pub enum Term {
     Of(Unknown),
     /// The type of a name that an item binds, at a use: the name's own inside its item, and behind it
     /// an instance at the fresh types of the use.
-    Top {
-        binder: u32,
-        node: u32,
-    },
+    Top { binder: u32, node: u32 },
     /// The type of an operation at the fresh types of a node.
-    Operation {
-        op: Op,
-        node: u32,
-    },
+    Operation { op: Op, node: u32 },
     /// A declaration at the fresh types of a node.
-    Made {
-        decl: u32,
-        node: u32,
-    },
+    Made { decl: u32, node: u32 },
     /// The whole argument of a constructor of a declaration, at the fresh types of a node: the type
     /// of its field, or the product of its fields' types where there are several.
-    Argument {
-        decl: u32,
-        con: u32,
-        node: u32,
-    },
+    Argument { decl: u32, con: u32, node: u32 },
     /// A field of a declaration at the fresh types of a node.
-    Field {
-        decl: u32,
-        field: u32,
-        node: u32,
-    },
+    Field { decl: u32, field: u32, node: u32 },
     /// A declaration at arguments. An abbreviation is the type that it stands for.
     Con(u32, Items<Term>),
     Tuple(Items<Term>),

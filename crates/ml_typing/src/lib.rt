@@ -4,6 +4,7 @@
 
 mod crossing;
 mod equation;
+pub mod laws;
 mod typed;
 
 pub use crossing::Cross;
