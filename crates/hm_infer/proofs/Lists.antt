@@ -14,4 +14,4 @@ block_step block total xs i x old new all law lt is grown h =
 
 pub block_end : {A B : Type 0} (total : List A → List B) (xs : List A) (i : ℕ) (ready all : List B) → total [] ≡ [] → length xs ≤ i → ready ++ total (drop i xs) ≡ all → ready ≡ all
 block_end total xs i ready all none le h =
-    sym (append-nil ready) ∙ (ap (λ ys. ready ++ ys) (sym (ap total (drop_all xs i le) ∙ none)) ∙ h)
+    sym (append-nil ready) ∙ (ap (λ ys. ready ++ ys) (sym (ap total (drop_all i xs le) ∙ none)) ∙ h)

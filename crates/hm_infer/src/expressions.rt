@@ -90,7 +90,14 @@ fn parts(
         ExprKind::Match(scrutinee, list) => {
             let inner = scrutinee.get();
             expression(alloc, s, item, inner, steps)?;
-            arms(alloc, s, item, list.as_slice(), Unknown::Node(inner.id), steps)
+            arms(
+                alloc,
+                s,
+                item,
+                list.as_slice(),
+                Unknown::Node(inner.id),
+                steps,
+            )
         }
         ExprKind::Fun(list, body) => {
             params(alloc, s, item, list.as_slice(), steps)?;
@@ -142,7 +149,14 @@ fn fields(
 ) -> Result<(), NoMemory> {
     for field in list {
         expression(alloc, s, item, &field.expr, steps)?;
-        field_step(alloc, field.id, field.name, field.expr.id, field.expr.span, steps)?;
+        field_step(
+            alloc,
+            field.id,
+            field.name,
+            field.expr.id,
+            field.expr.span,
+            steps,
+        )?;
     }
     Ok(())
 }

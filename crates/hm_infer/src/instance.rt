@@ -83,11 +83,7 @@ fn visit(
 }
 
 /// A node with the copies of its parts: the node itself where these are its parts.
-fn rebuilt(
-    solver: &mut Solver,
-    copies: &HashMap<u32, TyId>,
-    id: TyId,
-) -> Result<TyId, NoMemory> {
+fn rebuilt(solver: &mut Solver, copies: &HashMap<u32, TyId>, id: TyId) -> Result<TyId, NoMemory> {
     let alloc = solver.alloc;
     let Some(node) = solver.head(id) else {
         return Err(NoMemory)

@@ -11,7 +11,10 @@ pub fn item_steps(alloc: Global, s: &Scoped, item: &Item) -> Result<Items<Step>,
     let mut steps = Items::new(alloc);
     match &item.kind {
         ItemKind::Types(_) => {}
-        ItemKind::Let { recursive: _, binds: list } => {
+        ItemKind::Let {
+            recursive: _,
+            binds: list,
+        } => {
             binds(alloc, s, item.id, list.as_slice(), &mut steps)?;
         }
     }
@@ -23,7 +26,10 @@ pub fn item_steps(alloc: Global, s: &Scoped, item: &Item) -> Result<Items<Step>,
 pub fn item_binders(alloc: Global, item: &Item) -> Result<Items<u32>, NoMemory> {
     match &item.kind {
         ItemKind::Types(_) => Ok(Items::new(alloc)),
-        ItemKind::Let { recursive: _, binds } => all_binders(alloc, binds.as_slice()),
+        ItemKind::Let {
+            recursive: _,
+            binds,
+        } => all_binders(alloc, binds.as_slice()),
     }
 }
 

@@ -4,7 +4,6 @@
 mod error;
 mod expression_rows;
 mod expressions;
-
 mod instance;
 mod items;
 mod limit;

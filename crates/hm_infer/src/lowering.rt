@@ -108,12 +108,7 @@ fn field_type(
 }
 
 /// A declaration at arguments, an abbreviation as the type that it stands for.
-fn named(
-    solver: &mut Solver,
-    d: &Decls,
-    decl: u32,
-    args: Items<TyId>,
-) -> Result<TyId, NoMemory> {
+fn named(solver: &mut Solver, d: &Decls, decl: u32, args: Items<TyId>) -> Result<TyId, NoMemory> {
     let info = declaration(d, decl)?;
     match info.alias {
         None => solver.add(TyNode::Con(decl, args)),

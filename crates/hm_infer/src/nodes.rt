@@ -29,9 +29,7 @@ pub fn parts_within(node: &TyNode, count: u64) -> bool
         TyNode::Var(_) => true,
         TyNode::Con(_, parts) => all_within(parts.as_slice(), count),
         TyNode::Tuple(parts) => all_within(parts.as_slice(), count),
-        TyNode::Arrow { slot: _, from, to } => {
-            (from.0 as u64) < count && (to.0 as u64) < count
-        }
+        TyNode::Arrow { slot: _, from, to } => { (from.0 as u64) < count && (to.0 as u64) < count }
     }
 }
 

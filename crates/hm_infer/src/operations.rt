@@ -3,7 +3,6 @@ use crate::solver::Solver;
 use ml_types::{TyId, TyNode};
 use oxml_base::{Items, NoMemory};
 
-
 fn plain(solver: &mut Solver, decl: u32) -> Result<TyId, NoMemory> {
     let args = Items::new(solver.alloc);
     solver.add(TyNode::Con(decl, args))

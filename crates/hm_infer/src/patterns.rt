@@ -1,5 +1,5 @@
 //! The steps of patterns: those of a pattern's parts from left to right, then its own.
-ghost use Rattle.std.specs.Prelude.{◌≡◌, [], ◌∷◌, ◌++◌, OnOk, IfOk};
+ghost use Rattle.std.specs.Prelude.{◌≡◌, [], ◌∷◌, ◌++◌, None, Some, OnOk, IfOk};
 ghost use Rattle.ml_typing.specs.declared.equation.Unknown.TheVariants.{Node};
 ghost use Rattle.ml_typing.specs.declared.equation.Term.TheVariants.{Of};
 ghost use Rattle.ml_typing.specs.Rows.{equation};
@@ -19,7 +19,7 @@ pub fn push(
     node: Option<u32>,
     equations: Items<Equation>,
 ) -> Result<(), NoMemory>
-    ensures { OnOk result (steps.new ≡ steps.old ++ record { span = span; node = node; equations = equations; compared = Option.None } ∷ []) }
+    ensures { OnOk result (steps.new ≡ steps.old ++ record { span = span; node = node; equations = equations; compared = None } ∷ []) }
 {
     steps.push(Step {
         span,
@@ -111,7 +111,14 @@ fn fields(
 ) -> Result<(), NoMemory> {
     for field in list {
         pattern(alloc, s, item, &field.pat, None, steps)?;
-        field_step(alloc, field.id, field.name, field.pat.id, field.pat.span, steps)?;
+        field_step(
+            alloc,
+            field.id,
+            field.name,
+            field.pat.id,
+            field.pat.span,
+            steps,
+        )?;
     }
     Ok(())
 }
@@ -125,7 +132,7 @@ pub fn field_step(
     span: Span,
     steps: &mut Items<Step>,
 ) -> Result<(), NoMemory>
-    ensures { OnOk result (steps.new ≡ steps.old ++ record { span = record { start = name.start; «end» = span.«end» }; node = Option.Some id; equations = equation span (Node id) (Of (Node inner)) ∷ []; compared = Option.None } ∷ []) }
+    ensures { OnOk result (steps.new ≡ steps.old ++ record { span = record { start = name.start; «end» = span.«end» }; node = Some id; equations = equation span (Node id) (Of (Node inner)) ∷ []; compared = None } ∷ []) }
 {
     let own = one(alloc, span, Unknown::Node(id), node(inner))?;
     let whole = Span {
@@ -209,11 +216,7 @@ pub fn types_of(alloc: Global, list: &[ml_tree::Param]) -> Result<Items<Term>, N
 }
 
 /// Each element has the first fresh type of the list.
-fn elements(
-    list: Items<Equation>,
-    n: u32,
-    parts: &[Pat],
-) -> Result<Items<Equation>, NoMemory> {
+fn elements(list: Items<Equation>, n: u32, parts: &[Pat]) -> Result<Items<Equation>, NoMemory> {
     let mut all = list;
     for q in parts {
         all = part_is(all, q, fresh(n, 0))?;

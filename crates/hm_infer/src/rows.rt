@@ -10,7 +10,6 @@ use oxml_base::NoMemory;
 use std::alloc::Global;
 
 /// What the node names. Each node that names something has a reference.
-#[tactic(auto, using(crate::proofs::Lookups::find_has))]
 fn target(s: &Scoped, node: u32) -> Result<Ref, NoMemory>
     ensures { IfOk result (λ r. find s.now.refs node ≡ Some r) }
 {

@@ -1,4 +1,8 @@
 //! The steps of an item, one after the other, until one has no solution or makes a type too large.
+ghost use Rattle.std.specs.Prelude.{◌≡◌, length, Some, slice_get, IfOk};
+ghost use Rattle.ml_typing.specs.declared.equation.Equation.{Equation as EquationValue};
+ghost use Rattle.hm_infer.specs.Outcomes.{Comes, HasTypeRule};
+
 use crate::lowering::type_of;
 use crate::solver::Solver;
 use hm_unify::UnifyErr;
@@ -27,7 +31,9 @@ pub struct Progress {
 }
 
 /// The part of the program that the equation of this number speaks of.
-fn part_of(equations: &[Equation], number: u32) -> Result<Span, NoMemory> {
+fn part_of(equations: &[Equation], number: u32) -> Result<Span, NoMemory>
+    ensures { IfOk result (λ part. (e : EquationValue) × (slice_get equations.now number ≡ Some e) × (part ≡ e.part)) }
+{
     match at(equations, number as usize) {
         Some(equation) => Ok(equation.part),
         None => Err(NoMemory),
@@ -39,7 +45,9 @@ fn pairs_of(
     solver: &mut Solver,
     d: &Decls,
     equations: &[Equation],
-) -> Result<Vec<(TyId, TyId)>, NoMemory> {
+) -> Result<Vec<(TyId, TyId)>, NoMemory>
+    ensures { IfOk result (λ ps. length ps.items ≡ length equations.now) }
+{
     let mut pairs = Vec::new(solver.alloc);
     for equation in equations {
         let left = solver.unknown(equation.left)?;
@@ -50,19 +58,27 @@ fn pairs_of(
 }
 
 /// Makes the equations of a step hold, if they have a solution.
-pub fn run_step(solver: &mut Solver, d: &Decls, step: &Step) -> Result<Outcome, NoMemory> {
+pub fn run_step(solver: &mut Solver, d: &Decls, step: &Step) -> Result<Outcome, NoMemory>
+    ensures { IfOk result (Comes solver.new.bindings step.now.equations) }
+{
     let equations = step.equations.as_slice();
     let pairs = pairs_of(solver, d, equations)?;
     match solver.equate(pairs.as_slice()) {
         Ok(()) => Ok(Outcome::Holds),
-        Err(UnifyErr::Clash(number)) => Ok(Outcome::Unsolved(Refusal {
-            rule: Rule::TypesDiffer,
-            span: part_of(equations, number)?,
-        })),
-        Err(UnifyErr::Cycle(number)) => Ok(Outcome::Unsolved(Refusal {
-            rule: Rule::InfiniteType,
-            span: part_of(equations, number)?,
-        })),
+        Err(UnifyErr::Clash(number)) => {
+            let span = part_of(equations, number)?;
+            Ok(Outcome::Unsolved(Refusal {
+                rule: Rule::TypesDiffer,
+                span,
+            }))
+        }
+        Err(UnifyErr::Cycle(number)) => {
+            let span = part_of(equations, number)?;
+            Ok(Outcome::Unsolved(Refusal {
+                rule: Rule::InfiniteType,
+                span,
+            }))
+        }
         Err(UnifyErr::TooLarge(_)) => Ok(Outcome::Large),
         Err(UnifyErr::NoMemory) => Err(NoMemory),
     }

@@ -76,11 +76,7 @@ pub fn scheme_of(solver: &Solver, ty: TyId) -> Result<Scheme, NoMemory> {
     Err(NoMemory)
 }
 
-fn note(
-    vars: &mut Items<u32>,
-    seen: &mut HashMap<u32, bool>,
-    number: u32,
-) -> Result<(), NoMemory> {
+fn note(vars: &mut Items<u32>, seen: &mut HashMap<u32, bool>, number: u32) -> Result<(), NoMemory> {
     if seen.contains_key(&number) {
         return Ok(());
     }

@@ -1,6 +1,6 @@
 //! Terms as types of the bindings, and the equations of steps made to hold.
-ghost use Rattle.std.specs.Prelude.{◌≡◌, length};
-ghost use Rattle.hm_unify.specs.States.{IsTable};
+ghost use Rattle.std.specs.Prelude.{◌≡◌, length, OnOk, OnErr, IfErr};
+ghost use Rattle.hm_unify.specs.States.{IsTable, Equated, Refused};
 
 use crate::nodes::{pairs_within, parts_within};
 use hm_unify::{Bindings, UnifyErr};
@@ -65,7 +65,11 @@ impl Solver {
     }
 
     /// Makes the two of each pair equal.
-    pub fn equate(&mut self, pairs: &[(TyId, TyId)]) -> Result<(), UnifyErr> {
+    pub fn equate(&mut self, pairs: &[(TyId, TyId)]) -> Result<(), UnifyErr>
+        ensures ok { OnOk result (Equated self.old.bindings self.new.bindings pairs.now) }
+        ensures err { IfErr result (λ e. Refused self.old.bindings pairs.now e) }
+        ensures same { OnErr result (self.new.bindings ≡ self.old.bindings) }
+    {
         if !pairs_within(pairs, self.count) {
             return Err(UnifyErr::NoMemory);
         }

@@ -4,7 +4,10 @@ ghost use Rattle.hm_unify.specs.States.{IsTable};
 ghost use Rattle.ml_tree.specs.Rising.{Rises};
 
 use crate::{InferErr, infer};
-use ml_tree::{BinOp, Bind, Expr, ExprKind, Item, ItemKind, Param, Pat, PatKind, Program, Ref, Scoped, TyRef, Words};
+use ml_tree::{
+    BinOp, Bind, Expr, ExprKind, Item, ItemKind, Param, Pat, PatKind, Program, Ref, Scoped, TyRef,
+    Words,
+};
 use ml_types::{Decls, TyNode, TyTable};
 use ml_typing::Typed;
 use oxml_base::{Items, Limit, NoMemory, Refusal, Rule, Span};
@@ -118,7 +121,11 @@ fn refused(rule: Rule, place: u32) -> Option<InferErr> {
 #[test]
 fn a_number(rt: HostRuntime) -> Result<(), Fail> {
     let typed = types(rt.alloc(), int(2), 3).expect(&rt, "it has types");
-    let place = typed.node.as_slice().get(2).expect(&rt, "each node has a type");
+    let place = typed
+        .node
+        .as_slice()
+        .get(2)
+        .expect(&rt, "each node has a type");
     let node = typed.table.nodes.as_slice().get(place.0 as usize);
     assert!(rt; matches!(node, Some(TyNode::Con(0, _))));
     Ok(())

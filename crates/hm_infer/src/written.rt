@@ -52,7 +52,6 @@ fn all_written(
 }
 
 /// What a type expression names. Each that is a name or a variable has a reference.
-#[tactic(auto, using(crate::proofs::Lookups::find_has))]
 fn type_target(s: &Scoped, id: u32) -> Result<TyRef, NoMemory>
     ensures { IfOk result (λ r. find s.now.types id ≡ Some r) }
 {
