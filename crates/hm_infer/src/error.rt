@@ -12,18 +12,33 @@ pub enum InferErr {
 }
 
 impl From<NoMemory> for InferErr {
+    ghost use Rattle.std.specs.Prelude.{◌≡◌};
+    ghost use Rattle.hm_infer.specs.declared.error.InferErr.TheVariants.{NoMemory};
+
+    ghost from_gives = { λ _ e. e ≡ NoMemory };
+
     fn from(_error: NoMemory) -> InferErr {
         InferErr::NoMemory
     }
 }
 
 impl From<AllocError> for InferErr {
+    ghost use Rattle.std.specs.Prelude.{◌≡◌};
+    ghost use Rattle.hm_infer.specs.declared.error.InferErr.TheVariants.{NoMemory};
+
+    ghost from_gives = { λ _ e. e ≡ NoMemory };
+
     fn from(_error: AllocError) -> InferErr {
         InferErr::NoMemory
     }
 }
 
 impl<T: Drop> From<AllocFailed<T>> for InferErr {
+    ghost use Rattle.std.specs.Prelude.{◌≡◌};
+    ghost use Rattle.hm_infer.specs.declared.error.InferErr.TheVariants.{NoMemory};
+
+    ghost from_gives = { λ _ e. e ≡ NoMemory };
+
     fn from(_error: AllocFailed<T>) -> InferErr {
         InferErr::NoMemory
     }

@@ -1,5 +1,7 @@
 //! The types of a program, or the first reason why it has none.
+ghost use Rattle.std.specs.Prelude.{IfErr};
 ghost use Rattle.hm_unify.specs.States.{IsTable};
+ghost use Rattle.hm_infer.specs.Outcomes.{IsTypeRefusal};
 
 use crate::error::InferErr;
 use crate::items::item_steps;
@@ -24,6 +26,7 @@ use std::collections::HashMap;
 /// A program that does not fit its references and declarations is answered by `NoMemory`.
 pub fn infer(alloc: Global, s: &Scoped, d: &Decls, t: TyTable) -> Result<Typed, InferErr>
     requires { IsTable t.nodes }
+    ensures { IfErr result IsTypeRefusal }
 {
     let program = s.program();
     let items = program.items.as_slice();
@@ -59,6 +62,7 @@ fn check_item(
     steps: &[Step],
 ) -> Result<(), InferErr>
     requires { IsTable table.now.nodes }
+    ensures { IfErr result IsTypeRefusal }
 {
     let alloc = solver.alloc;
     let progress = run_steps(solver, d, steps)?;
@@ -77,7 +81,9 @@ fn check_item(
 }
 
 /// The limit at the step of this place.
-fn too_large(steps: &[Step], place: usize) -> Result<(), InferErr> {
+fn too_large(steps: &[Step], place: usize) -> Result<(), InferErr>
+    ensures { IfErr result IsTypeRefusal }
+{
     match at(steps, place) {
         Some(step) => Err(InferErr::Limit(Limit::TypeSize(2001), step.span)),
         None => Err(InferErr::NoMemory),

@@ -59,7 +59,8 @@ fn pairs_of(
 
 /// Makes the equations of a step hold, if they have a solution.
 pub fn run_step(solver: &mut Solver, d: &Decls, step: &Step) -> Result<Outcome, NoMemory>
-    ensures { IfOk result (Comes solver.new.bindings step.now.equations) }
+    ensures comes { IfOk result (Comes solver.new.bindings step.now.equations) }
+    ensures rule { IfOk result HasTypeRule }
 {
     let equations = step.equations.as_slice();
     let pairs = pairs_of(solver, d, equations)?;
@@ -85,7 +86,9 @@ pub fn run_step(solver: &mut Solver, d: &Decls, step: &Step) -> Result<Outcome, 
 }
 
 /// Runs the steps from the first on, until one does not hold.
-pub fn run_steps(solver: &mut Solver, d: &Decls, steps: &[Step]) -> Result<Progress, NoMemory> {
+pub fn run_steps(solver: &mut Solver, d: &Decls, steps: &[Step]) -> Result<Progress, NoMemory>
+    ensures { IfOk result (λ p. HasTypeRule p.outcome) }
+{
     for number in 0..steps.len() {
         let outcome = run_step(solver, d, &steps[number])?;
         if outcome != Outcome::Holds {
