@@ -1,0 +1,4 @@
+pub mod Fronts
+pub mod Lets
+pub mod Places
+pub mod Says

@@ -1,0 +1,3 @@
+//! The cursor on small texts.
+
+mod lets;

@@ -1,0 +1,12 @@
+pub mod AllStays
+pub mod CountsUp
+pub mod ExprRuns
+pub mod ExprStays
+pub mod Forms
+pub mod Lists
+pub mod PatternRuns
+pub mod PatternStays
+pub mod Runs
+pub mod Stays
+pub mod TypeRuns
+pub mod TypeStays

@@ -1,0 +1,8 @@
+use Rattle.std.proofs.Common.{◌≡◌, map, drop}
+use Rattle.ml_numbers.specs.Steps.{each}
+use Rattle.ml_numbers.specs.Numbered.{numbered_arg}
+use Rattle.ml_numbers.proofs.Lists.{onto}
+use Rattle.ml_numbers.proofs.types.number_args.Given as goal
+
+abbrev pub invariant-loop-one : goal.invariant-loop-one
+invariant-loop-one l = onto l.done (each (map numbered_arg (drop l.one-index l.list)) l.next) ≡ each (map numbered_arg l.list) l.fn.next

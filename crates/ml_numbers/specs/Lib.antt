@@ -1,0 +1,4 @@
+pub mod Bare
+pub mod Ids
+pub mod Numbered
+pub mod Steps
