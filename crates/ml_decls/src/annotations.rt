@@ -103,10 +103,10 @@ fn params(
 fn result_type(
     s: &Scoped,
     counts: &[u32],
-    result: &Option<TyExpr>,
+    written: &Option<TyExpr>,
     offences: &mut Items<Refusal>,
 ) -> Result<(), NoMemory> {
-    match result {
+    match written {
         Some(ty) => annotation(s, counts, ty, offences),
         None => Ok(()),
     }

@@ -1,6 +1,6 @@
 //! Whether the declarations of a program are well formed, and what they declare.
 ghost use Rattle.std.specs.Prelude.{IfOk, IfErr};
-ghost use Rattle.ml_decls.specs.Answers.{HasTypes, IsChecked, Explains};
+ghost use Rattle.ml_decls.specs.Answers.{IsChecked, Explains};
 
 use crate::annotations::check_annotations;
 use crate::arguments::check_declarations;
@@ -41,13 +41,13 @@ fn first_violation(
 
 /// The declarations of a program at their types, the predefined ones first, and the table in which
 /// these types stand. Each arrow of the table has a slot of its own, counted from 0. The text is
-/// that over which the spans of the program count.
+/// that over which the spans of the program count. Each name and each variable of a type has a
+/// reference, as `resolve` gives it; where one has none, the answer is `NoMemory`.
 pub fn check_decls(
     alloc: Global,
     text: &[u8],
     s: &Scoped,
 ) -> Result<(Decls, TyTable), DeclErr>
-    requires { HasTypes s.now }
     ensures ok { IfOk result (λ made. IsChecked text.now s.now made.0 made.1) }
     ensures err { IfErr result (Explains text.now s.now) }
 {

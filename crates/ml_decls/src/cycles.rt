@@ -204,7 +204,7 @@ fn report_list(
 ) -> Result<usize, NoMemory> {
     let mut place = first;
     for one in list {
-        let itself = at(cyclic, place) == Some(&true);
+        let itself = at(cyclic, place).copied() == Some(true);
         offence_where(itself, Rule::CyclicAbbreviation, one.name, offences)?;
         place = place.checked_add(1).ok_or(NoMemory)?;
     }
