@@ -21,54 +21,53 @@ spelling text place = take (place.end - place.start) (drop place.start text)
 abbrev pub Among : {A : Type 0} → A → List A → Type 0
 Among a xs = (i : ℕ) × (slice_get xs i ≡ Some a)
 
-module _ (types : List (ℕ × TyRef)) (items : List Item) where
-  -- a name stands at this place at more or fewer arguments than its declaration has variables
-  pub record IsWrongCount (place : Span) : Type 0 where
-    pub id : ℕ
-    pub arguments : ℕ
-    pub declaration : ℕ
-    pub variables : ℕ
-    pub stands : Among (Named id place arguments) (all_mentions items)
-    pub names : find types id ≡ Some (r.Decl declaration)
-    pub declared : slice_get (variable_counts (declarations items)) declaration ≡ Some variables
-    pub differ : arguments ≢ variables
+-- a name stands at this place at more or fewer arguments than its declaration has variables
+pub record IsWrongCount (types : List (ℕ × TyRef)) (items : List Item) (place : Span) : Type 0 where
+  pub id : ℕ
+  pub arguments : ℕ
+  pub declaration : ℕ
+  pub variables : ℕ
+  pub stands : Among (Named id place arguments) (all_mentions items)
+  pub names : find types id ≡ Some (r.Decl declaration)
+  pub declared : slice_get (variable_counts (declarations items)) declaration ≡ Some variables
+  pub differ : arguments ≢ variables
 
-  -- a variable stands at this place in a declaration that does not list it: the variables that it lists have the first numbers
-  pub record IsUnlisted (place : Span) : Type 0 where
-    pub declaration : Decl
-    pub id : ℕ
-    pub number : ℕ
-    pub declared : Among declaration (declarations items)
-    pub stands : Among (Variable id place) (body_mentions declaration.body)
-    pub names : find types id ≡ Some (r.Var number)
-    pub behind : length declaration.vars ≤ number
+-- a variable stands at this place in a declaration that does not list it: the variables that it lists have the first numbers
+pub record IsUnlisted (types : List (ℕ × TyRef)) (items : List Item) (place : Span) : Type 0 where
+  pub declaration : Decl
+  pub id : ℕ
+  pub number : ℕ
+  pub declared : Among declaration (declarations items)
+  pub stands : Among (Variable id place) (body_mentions declaration.body)
+  pub names : find types id ≡ Some (r.Var number)
+  pub behind : length declaration.vars ≤ number
 
-  -- the name of the declaration e stands in the type that the declaration d abbreviates; written declarations are numbered from 7 on
-  pub record Abbreviates (d e : ℕ) : Type 0 where
-    pub place : ℕ
-    pub declaration : Decl
-    pub body : TyExpr
-    pub id : ℕ
-    pub whole : Span
-    pub arguments : ℕ
-    pub number : d ≡ place + 7
-    pub declared : slice_get (declarations items) place ≡ Some declaration
-    pub abbreviates : declaration.body ≡ Alias body
-    pub stands : Among (Named id whole arguments) (mentions body)
-    pub names : find types id ≡ Some (r.Decl e)
+-- the name of the declaration e stands in the type that the declaration d abbreviates; written declarations are numbered from 7 on
+pub record Abbreviates (types : List (ℕ × TyRef)) (items : List Item) (d e : ℕ) : Type 0 where
+  pub place : ℕ
+  pub declaration : Decl
+  pub body : TyExpr
+  pub id : ℕ
+  pub whole : Span
+  pub arguments : ℕ
+  pub number : d ≡ place + 7
+  pub declared : slice_get (declarations items) place ≡ Some declaration
+  pub abbreviates : declaration.body ≡ Alias body
+  pub stands : Among (Named id whole arguments) (mentions body)
+  pub names : find types id ≡ Some (r.Decl e)
 
-  -- the same through any number of abbreviations
-  pub data Reaches : ℕ → ℕ → Type 0 where
-    at_once : (d e : ℕ) → Abbreviates d e → Reaches d e
-    through : (d e f : ℕ) → Abbreviates d e → Reaches e f → Reaches d f
+-- the same through any number of abbreviations
+pub data Reaches (types : List (ℕ × TyRef)) (items : List Item) : ℕ → ℕ → Type 0 where
+  at_once : (d e : ℕ) → Abbreviates types items d e → Reaches types items d e
+  through : (d e f : ℕ) → Abbreviates types items d e → Reaches types items e f → Reaches types items d f
 
-  -- the name at this place is that of an abbreviation that reaches itself
-  pub record IsCyclic (name : Span) : Type 0 where
-    pub place : ℕ
-    pub declaration : Decl
-    pub declared : slice_get (declarations items) place ≡ Some declaration
-    pub at_name : declaration.name ≡ name
-    pub itself : Reaches (place + 7) (place + 7)
+-- the name at this place is that of an abbreviation that reaches itself
+pub record IsCyclic (types : List (ℕ × TyRef)) (items : List Item) (name : Span) : Type 0 where
+  pub place : ℕ
+  pub declaration : Decl
+  pub declared : slice_get (declarations items) place ≡ Some declaration
+  pub at_name : declaration.name ≡ name
+  pub itself : Reaches types items (place + 7) (place + 7)
 
 -- a name of a list stands in it before
 pub record IsRepeated (text : List ℕ) (names : List Span) (name : Span) : Type 0 where

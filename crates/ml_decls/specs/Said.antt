@@ -14,7 +14,7 @@ use Rattle.ml_tree.specs.declared.types.ConDecl.{ConDecl}
 use Rattle.ml_tree.specs.declared.types.FieldDecl.{FieldDecl}
 use Rattle.ml_tree.specs.declared.types.Decl.{Decl}
 use Rattle.ml_tree.specs.declared.types.DeclBody.{DeclBody}
-use Rattle.ml_tree.specs.declared.types.DeclBody.TheVariants.{Variant, Fields, Alias}
+use Rattle.ml_tree.specs.declared.types.DeclBody.TheVariants as b
 use Rattle.ml_tree.specs.declared.reference.TyRef.{TyRef}
 use Rattle.ml_tree.specs.declared.reference.TyRef.TheVariants as r
 use Rattle.ml_types.specs.Types.{Head, ConHead, TupleHead, ArrowHead, Tree, Leaf, Node, Trees, Nil, Cons}
@@ -26,15 +26,15 @@ abbrev pub listed : List Tree → Trees
 listed [] = Nil
 listed (one ∷ others) = Cons one (listed others)
 
-abbrev pub named : List Tree → Option TyRef → Tree
-named args None = Node (TupleHead 0) Nil
-named args (Some (r.Decl d)) = Node (ConHead d (length args)) (listed args)
-named args (Some (r.Var v)) = Leaf v
+abbrev pub type_named : List Tree → Option TyRef → Tree
+type_named args None = Node (TupleHead 0) Nil
+type_named args (Some (r.Decl d)) = Node (ConHead d (length args)) (listed args)
+type_named args (Some (r.Var v)) = Leaf v
 
 module _ (types : List (ℕ × TyRef)) where
   abbrev pub step : TyKind-F (ℕ → Tree) Tree Tree → ℕ → Tree
-  step (t.Var name) id = named [] (find types id)
-  step (t.Con name args) id = named args (find types id)
+  step (t.Var name) id = type_named [] (find types id)
+  step (t.Con name args) id = type_named args (find types id)
   step (t.Tuple parts) id = Node (TupleHead (length parts)) (listed parts)
   step (t.Arrow from to) id = Node ArrowHead (Cons from (Cons to Nil))
 
@@ -85,19 +85,19 @@ module _ (types : List (ℕ × TyRef)) where
   said_field f = record { name = f.name; arg = said_arg f.arg }
 
   abbrev pub body_cons : DeclBody → List SaidCon
-  body_cons (Variant cs) = map said_con cs
-  body_cons (Fields fs) = []
-  body_cons (Alias ty) = []
+  body_cons (b.Variant cs) = map said_con cs
+  body_cons (b.Fields fs) = []
+  body_cons (b.Alias ty) = []
 
   abbrev pub body_fields : DeclBody → List SaidField
-  body_fields (Variant cs) = []
-  body_fields (Fields fs) = map said_field fs
-  body_fields (Alias ty) = []
+  body_fields (b.Variant cs) = []
+  body_fields (b.Fields fs) = map said_field fs
+  body_fields (b.Alias ty) = []
 
   abbrev pub body_alias : DeclBody → Option Tree
-  body_alias (Variant cs) = None
-  body_alias (Fields fs) = None
-  body_alias (Alias ty) = Some (written types ty)
+  body_alias (b.Variant cs) = None
+  body_alias (b.Fields fs) = None
+  body_alias (b.Alias ty) = Some (written types ty)
 
   abbrev pub said : Decl → Said
   said d = record { name = d.name; vars = length d.vars; cons = body_cons d.body; fields = body_fields d.body; alias = body_alias d.body }

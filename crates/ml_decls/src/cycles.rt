@@ -103,6 +103,9 @@ impl Walk {
 
     /// A declaration names another.
     fn follow(&mut self, graph: &Graph, from: u32, to: u32) -> Result<(), NoMemory> {
+        if to as usize >= graph.len() {
+            return Ok(());
+        }
         if from == to {
             set_cyclic(&mut self.cyclic, to);
         }
