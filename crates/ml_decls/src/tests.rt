@@ -204,7 +204,7 @@ fn argument_too_many(rt: HostRuntime) -> Result<(), Fail> {
 #[test]
 fn argument_in_annotation(rt: HostRuntime) -> Result<(), Fail> {
     let alloc = rt.alloc();
-    // `let x : option = 1`; a variable may stand in an item.
+    // A type without variables behind an argument, in the type of a bound name.
     let mut binds = Items::new(alloc);
     let ty = applied(alloc, 0, span(8, 18), name(alloc, 1, span(8, 11)))?;
     binds.push(Bind {
@@ -345,7 +345,7 @@ fn long_chain(rt: HostRuntime) -> Result<(), Fail> {
     let open = chain(alloc, 50_000, 0)?;
     let none = refusal(check_decls(alloc, text.as_slice(), &open));
     assert_eq!(rt; none, None);
-    // The ring begins at the declaration 49,999 places on.
+    // The last names the declaration at place 40,000, at which the ring begins.
     let closed = chain(alloc, 50_000, 40_007)?;
     let found = refusal(check_decls(alloc, text.as_slice(), &closed));
     assert_eq!(rt; found, at_place(Rule::CyclicAbbreviation, 80_000, 80_002));
