@@ -1,0 +1,15 @@
+pub mod Arithmetic
+pub mod Captures
+pub mod Comparing
+pub mod Evaluation
+pub mod Functions
+pub mod Growth
+pub mod Names
+pub mod Operations
+pub mod Patterns
+pub mod Programs
+pub mod Runs
+pub mod Tellings
+pub mod Traces
+pub mod Values
+pub mod Weights

@@ -1,0 +1,7 @@
+//! What a program means: a trace of events and how it ends, with no places, words of memory or
+//! addresses.
+#![tactic(auto)]
+
+mod event;
+
+pub use event::{Ending, Event};
