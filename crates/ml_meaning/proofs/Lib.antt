@@ -1,1 +1,3 @@
-
+pub mod Rising
+pub mod Steady
+pub mod Trees

@@ -13,7 +13,7 @@ bytes (_ ∷ es) = bytes es
 -- the words of all that was made or overwritten
 abbrev pub made_words : List Event → ℕ
 made_words [] = 0
-made_words (event.Made node words ∷ es) = words + made_words es
+made_words (event.Made at words ∷ es) = words + made_words es
 made_words (event.Over node words ∷ es) = words + made_words es
 made_words (_ ∷ es) = made_words es
 
@@ -25,7 +25,7 @@ is_local local (Some node) = local node
 -- the words of what was made in the area
 abbrev pub area_words : (ℕ → Bool) → List Event → ℕ
 area_words local [] = 0
-area_words local (event.Made node words ∷ es) = (if is_local local node then 0 else words) + area_words local es
+area_words local (event.Made at words ∷ es) = (if is_local local at then 0 else words) + area_words local es
 area_words local (_ ∷ es) = area_words local es
 
 -- the words of local blocks, and what they were as each open region began, the last first
@@ -39,7 +39,7 @@ returned words [] = record { words = words; notes = [] }
 returned words (n ∷ ns) = record { words = n; notes = ns }
 
 abbrev pub height_after : (ℕ → Bool) → Height → Event → Height
-height_after local h (event.Made node words) = if is_local local node then record { words = h.words + words; notes = h.notes } else h
+height_after local h (event.Made at words) = if is_local local at then record { words = h.words + words; notes = h.notes } else h
 height_after local h event.Open = record { words = h.words; notes = h.words ∷ h.notes }
 height_after local h event.Close = returned h.words h.notes
 height_after local h _ = h
