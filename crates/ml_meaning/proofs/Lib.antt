@@ -1,3 +1,4 @@
+pub mod Fuel
 pub mod Rising
 pub mod Steady
 pub mod Trees

@@ -6,8 +6,8 @@ use Rattle.ml_tree.specs.declared.pattern.Param.{Param}
 use Rattle.ml_tree.specs.declared.types.TyExpr.{TyExpr}
 use Rattle.ml_tree.specs.declared.reference.Ref.{Ref}
 use Rattle.ml_tree.specs.declared.reference.Ref.TheVariants as ref
-use Rattle.ml_tree.specs.declared.expr.Arm.{Arm, fold-Arm, fold-roll-Arm, map-Arm, roll-Arm}
-use Rattle.ml_tree.specs.declared.expr.Bind.{Bind, fold-Bind, fold-roll-Bind, map-Bind, roll-Bind}
+use Rattle.ml_tree.specs.declared.expr.Arm.{Arm, ind-Arm, fold-Arm, fold-roll-Arm, map-Arm, roll-Arm}
+use Rattle.ml_tree.specs.declared.expr.Bind.{Bind, ind-Bind, fold-Bind, fold-roll-Bind, map-Bind, roll-Bind}
 use Rattle.ml_tree.specs.declared.expr.FieldExpr.{FieldExpr, fold-FieldExpr, fold-roll-FieldExpr, map-FieldExpr, roll-FieldExpr}
 use Rattle.ml_tree.specs.declared.expr.ExprKind.{ExprKind, fold-ExprKind, fold-roll-ExprKind, map-ExprKind, roll-ExprKind}
 use Rattle.ml_tree.specs.declared.expr.ExprKind.TheOpen as e
@@ -165,12 +165,38 @@ module _ (E : Type 0) (s : Setting E) where
   expr_goes : (y : Expr-F KindPart ArmPart BindPart ExprPart FieldPart) → ExprGoes E (expr_step E s (meant_expr (expr_layer y)))
   expr_goes y = record { form = (y.kind.1 y.id).form; run = record { by = λ c d h mode env. goes_after s.visit _ _ ((y.kind.1 y.id).run.by c d h mode env) } }
 
-  -- every expression is steady
-  pub goes : (x : Expr) → ExprGoes E (expr_meaning E s x)
-  goes x = ind-Expr (λ k. (node : ℕ) → ExprGoes E (kind_meaning k node)) (λ a. ArmGoes E (arm_meaning E s a)) (λ b. Goes E (bind_meaning E s b).value) (λ y. ExprGoes E (expr_meaning E s y)) (λ f. Goes E (field_meaning f).1)
-     (λ l y same node. subst (λ m. ExprGoes E (m node)) (sym (fold-roll-ExprKind (ℕ → ExprMeaning E) (ArmMeaning E) (BindMeaning E) (ExprMeaning E) (ℕ × Meaning E) (step E s) (arm_step E s) (bind_step E s) (expr_step E s) (field_step E s) l)) (subst (λ l. ExprGoes E (step E s (meant l) node)) same (kind_goes y node)))
-     (λ l y same. subst (ArmGoes E) (sym (fold-roll-Arm (ℕ → ExprMeaning E) (ArmMeaning E) (BindMeaning E) (ExprMeaning E) (ℕ × Meaning E) (step E s) (arm_step E s) (bind_step E s) (expr_step E s) (field_step E s) l)) (subst (λ l. ArmGoes E (arm_step E s (meant_arm l))) same (arm_goes y.pat y.guard y.body)))
-     (λ l y same. subst (λ b. Goes E b.value) (sym (fold-roll-Bind (ℕ → ExprMeaning E) (ArmMeaning E) (BindMeaning E) (ExprMeaning E) (ℕ × Meaning E) (step E s) (arm_step E s) (bind_step E s) (expr_step E s) (field_step E s) l)) (subst (λ l. Goes E (bind_step E s (meant_bind l)).value) same (bind_goes y.pat y.params y.result y.body)))
-     (λ l y same. subst (ExprGoes E) (sym (fold-roll-Expr (ℕ → ExprMeaning E) (ArmMeaning E) (BindMeaning E) (ExprMeaning E) (ℕ × Meaning E) (step E s) (arm_step E s) (bind_step E s) (expr_step E s) (field_step E s) l)) (subst (λ l. ExprGoes E (expr_step E s (meant_expr l))) same (expr_goes y)))
-     (λ l y same. subst (λ f. Goes E f.1) (sym (fold-roll-FieldExpr (ℕ → ExprMeaning E) (ArmMeaning E) (BindMeaning E) (ExprMeaning E) (ℕ × Meaning E) (step E s) (arm_step E s) (bind_step E s) (expr_step E s) (field_step E s) l)) (subst (λ l. Goes E (field_step E s (meant_field l)).1) same y.expr.1.run))
-     x
+  -- one case of the induction for each kind of part
+  kind_case : (l : ExprKind-F ExprKind Arm Bind Expr FieldExpr) (y : ExprKind-F KindPart ArmPart BindPart ExprPart FieldPart) → layer y ≡ l → (node : ℕ) → ExprGoes E (kind_meaning (roll-ExprKind l) node)
+  kind_case l y same node =
+      subst (λ m. ExprGoes E (m node)) (sym (fold-roll-ExprKind (ℕ → ExprMeaning E) (ArmMeaning E) (BindMeaning E) (ExprMeaning E) (ℕ × Meaning E) (step E s) (arm_step E s) (bind_step E s) (expr_step E s) (field_step E s) l))
+        (subst (λ l. ExprGoes E (step E s (meant l) node)) same (kind_goes y node))
+
+  arm_case : (l : Arm-F ExprKind Arm Bind Expr FieldExpr) (y : Arm-F KindPart ArmPart BindPart ExprPart FieldPart) → arm_layer y ≡ l → ArmGoes E (arm_meaning E s (roll-Arm l))
+  arm_case l y same =
+      subst (ArmGoes E) (sym (fold-roll-Arm (ℕ → ExprMeaning E) (ArmMeaning E) (BindMeaning E) (ExprMeaning E) (ℕ × Meaning E) (step E s) (arm_step E s) (bind_step E s) (expr_step E s) (field_step E s) l))
+        (subst (λ l. ArmGoes E (arm_step E s (meant_arm l))) same (arm_goes y.pat y.guard y.body))
+
+  bind_case : (l : Bind-F ExprKind Arm Bind Expr FieldExpr) (y : Bind-F KindPart ArmPart BindPart ExprPart FieldPart) → bind_layer y ≡ l → Goes E (bind_meaning E s (roll-Bind l)).value
+  bind_case l y same =
+      subst (λ b. Goes E b.value) (sym (fold-roll-Bind (ℕ → ExprMeaning E) (ArmMeaning E) (BindMeaning E) (ExprMeaning E) (ℕ × Meaning E) (step E s) (arm_step E s) (bind_step E s) (expr_step E s) (field_step E s) l))
+        (subst (λ l. Goes E (bind_step E s (meant_bind l)).value) same (bind_goes y.pat y.params y.result y.body))
+
+  expr_case : (l : Expr-F ExprKind Arm Bind Expr FieldExpr) (y : Expr-F KindPart ArmPart BindPart ExprPart FieldPart) → expr_layer y ≡ l → ExprGoes E (expr_meaning E s (roll-Expr l))
+  expr_case l y same =
+      subst (ExprGoes E) (sym (fold-roll-Expr (ℕ → ExprMeaning E) (ArmMeaning E) (BindMeaning E) (ExprMeaning E) (ℕ × Meaning E) (step E s) (arm_step E s) (bind_step E s) (expr_step E s) (field_step E s) l))
+        (subst (λ l. ExprGoes E (expr_step E s (meant_expr l))) same (expr_goes y))
+
+  field_case : (l : FieldExpr-F ExprKind Arm Bind Expr FieldExpr) (y : FieldExpr-F KindPart ArmPart BindPart ExprPart FieldPart) → field_layer y ≡ l → Goes E (field_meaning (roll-FieldExpr l)).1
+  field_case l y same =
+      subst (λ f. Goes E f.1) (sym (fold-roll-FieldExpr (ℕ → ExprMeaning E) (ArmMeaning E) (BindMeaning E) (ExprMeaning E) (ℕ × Meaning E) (step E s) (arm_step E s) (bind_step E s) (expr_step E s) (field_step E s) l))
+        (subst (λ l. Goes E (field_step E s (meant_field l)).1) same y.expr.1.run)
+
+  -- every expression, arm and binding is steady
+  pub expr_is_steady : (x : Expr) → ExprGoes E (expr_meaning E s x)
+  expr_is_steady x = ind-Expr (λ k. (node : ℕ) → ExprGoes E (kind_meaning k node)) (λ a. ArmGoes E (arm_meaning E s a)) (λ b. Goes E (bind_meaning E s b).value) (λ y. ExprGoes E (expr_meaning E s y)) (λ f. Goes E (field_meaning f).1) kind_case arm_case bind_case expr_case field_case x
+
+  pub arm_is_steady : (a : Arm) → ArmGoes E (arm_meaning E s a)
+  arm_is_steady a = ind-Arm (λ k. (node : ℕ) → ExprGoes E (kind_meaning k node)) (λ a. ArmGoes E (arm_meaning E s a)) (λ b. Goes E (bind_meaning E s b).value) (λ y. ExprGoes E (expr_meaning E s y)) (λ f. Goes E (field_meaning f).1) kind_case arm_case bind_case expr_case field_case a
+
+  pub bind_is_steady : (b : Bind) → Goes E (bind_meaning E s b).value
+  bind_is_steady b = ind-Bind (λ k. (node : ℕ) → ExprGoes E (kind_meaning k node)) (λ a. ArmGoes E (arm_meaning E s a)) (λ b. Goes E (bind_meaning E s b).value) (λ y. ExprGoes E (expr_meaning E s y)) (λ f. Goes E (field_meaning f).1) kind_case arm_case bind_case expr_case field_case b

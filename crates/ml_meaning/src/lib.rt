@@ -3,5 +3,7 @@
 #![tactic(auto)]
 
 mod event;
+mod laws;
 
 pub use event::{Ending, Event};
+pub use laws::more_fuel;
