@@ -1,5 +1,5 @@
 -- Whole numbers of 63 bits with sign, as OCaml has them: they wrap modulo 2 ^ 63.
-use Rattle.std.specs.Prelude.{ℕ, ◌+◌, ◌-◌, ◌/◌, ◌^◌, Bool, true, false, ◌&&◌, ℤ, pos, negsuc, ◌+ℤ◌, ◌-ℤ◌, ◌*ℤ◌, neg_ℤ, int_lt, int_le, int_div, int_rem, unsigned_abs, bit_and, bit_or, bit_xor, nat_lt, suc, if◌then◌else◌, Option, Some, None, not}
+use Rattle.std.specs.Prelude.{ℕ, ◌+◌, ◌-◌, ◌/◌, ◌^◌, Bool, true, false, ◌&&◌, ℤ, pos, negsuc, ◌+ℤ◌, ◌-ℤ◌, ◌*ℤ◌, neg_ℤ, int_lt, int_le, int_div, int_rem, unsigned_abs, bit_and, bit_or, bit_xor, nat_lt, nat_le, suc, if◌then◌else◌, Option, Some, None, not}
 use Rattle.std.specs.Int.{int_rem_euclid, int_div_euclid}
 use Rattle.std.specs.Ordering.{int_eq}
 use Rattle.ml_tree.specs.declared.expr.BinOp.{BinOp}
@@ -16,20 +16,23 @@ of_residue n = if nat_lt n (2 ^ 62) then pos n else negsuc (2 ^ 63 - suc n)
 abbrev pub wrapped : ℤ → ℤ
 wrapped z = of_residue (residue z)
 
--- a shift count from 0 to 62
-abbrev pub shifts : ℤ → Bool
-shifts k = int_le (pos 0) k && int_le k (pos 62)
+-- a shift count from 0 to 62; by any other count all bits are shifted out
+abbrev pub shift_count : ℤ → Option ℕ
+shift_count (pos k) = if nat_le k 62 then Some k else None
+shift_count (negsuc k) = None
 
-abbrev pub shift_left : ℤ → ℤ → ℤ
-shift_left a k = if shifts k then wrapped (a *ℤ pos (2 ^ unsigned_abs k)) else pos 0
+abbrev pub shift_left : ℤ → Option ℕ → ℤ
+shift_left a None = pos 0
+shift_left a (Some k) = wrapped (a *ℤ pos (2 ^ k))
 
-abbrev pub shift_right : ℤ → ℤ → ℤ
-shift_right a k = if shifts k then of_residue (residue a / 2 ^ unsigned_abs k) else pos 0
+abbrev pub shift_right : ℤ → Option ℕ → ℤ
+shift_right a None = pos 0
+shift_right a (Some k) = of_residue (residue a / 2 ^ k)
 
 -- the sign stays
-abbrev pub shift_right_signed : ℤ → ℤ → ℤ
-shift_right_signed a k =
-    if shifts k then int_div_euclid a (pos (2 ^ unsigned_abs k)) else if int_lt a (pos 0) then negsuc 0 else pos 0
+abbrev pub shift_right_signed : ℤ → Option ℕ → ℤ
+shift_right_signed a None = if int_lt a (pos 0) then negsuc 0 else pos 0
+shift_right_signed a (Some k) = int_div_euclid a (pos (2 ^ k))
 
 -- what an operator on two numbers gives; none where it divides by 0. Division rounds toward 0, and
 -- the remainder has the sign of the dividend
@@ -42,7 +45,7 @@ arithmetic op.Mod a b = if int_eq b (pos 0) then None else Some (int_rem a b)
 arithmetic op.And a b = Some (of_residue (bit_and (residue a) (residue b)))
 arithmetic op.Or a b = Some (of_residue (bit_or (residue a) (residue b)))
 arithmetic op.Xor a b = Some (of_residue (bit_xor (residue a) (residue b)))
-arithmetic op.Lsl a b = Some (shift_left a b)
-arithmetic op.Lsr a b = Some (shift_right a b)
-arithmetic op.Asr a b = Some (shift_right_signed a b)
+arithmetic op.Lsl a b = Some (shift_left a (shift_count b))
+arithmetic op.Lsr a b = Some (shift_right a (shift_count b))
+arithmetic op.Asr a b = Some (shift_right_signed a (shift_count b))
 arithmetic _ a b = None

@@ -1,0 +1,2 @@
+mod maker;
+mod programs;
