@@ -17,7 +17,7 @@ use Rattle.ml_meaning.specs.Runs.{Run, Done, Stop, Stopped, Ended, Stuck, trace,
 use Rattle.ml_meaning.specs.Growth.{Begins, GoesOn}
 use Rattle.ml_meaning.specs.Tellings.{Setting, Mode, Last, Call, Meaning, or_stuck, finish}
 use Rattle.ml_meaning.specs.Operations.{operate}
-use Rattle.ml_meaning.specs.Programs.{expr_meaning, arm_meaning, bind_meaning, evaluate, own_name, body_run, code_run, calls, item_weight, bound, item_run, item_evaluated, setting, items_run, program_run, answer, eval}
+use Rattle.ml_meaning.specs.Programs.{expr_meaning, arm_meaning, bind_meaning, evaluate, own_name, bind_names, body_run, code_run, calls, item_weight, bound, item_run, item_evaluated, setting, items_run, program_run, answer, eval}
 use Rattle.ml_meaning.proofs.Rising.{begins-same, goes_same, goes_after, goes_bind}
 use Rattle.ml_meaning.proofs.Steady.{AllGo, AllArmsGo, CallGoes, goes_values, goes_matched, goes_choose}
 use Rattle.ml_meaning.proofs.Trees.{expr_is_steady, arm_is_steady, bind_is_steady}
@@ -41,7 +41,7 @@ module _ (E : Type 0) (s : Setting E) where
   goes_code : (c d : Call E) → CallGoes E c d → (code : Code) (held vs : List Value) → GoesOn (code_run E s c code held vs) (code_run E s d code held vs)
   goes_code c d h (Source n) held vs =
       goes_bind (or_stuck (s.code n)) (or_stuck (s.code n)) _ _ (goes_same (or_stuck (s.code n)))
-        (λ f. goes_body f c d h (zip f.captures held ++ own_name E s f.own (Function (Source n) (packed held) no_values)) f.body vs)
+        (λ f. goes_body f c d h (bind_names E s f.captures held (own_name E s f.own (Function (Source n) (packed held) no_values))) f.body vs)
   goes_code c d h (Primitive o) held vs = goes_same (operate E s None o vs >>= finish E s (Last 64))
 
   pub goes_calls : (n : ℕ) → CallGoes E (calls E s n) (calls E s (suc n))

@@ -34,14 +34,20 @@ abbrev pub shift_right_signed : ℤ → Option ℕ → ℤ
 shift_right_signed a None = if int_lt a (pos 0) then negsuc 0 else pos 0
 shift_right_signed a (Some k) = int_div_euclid a (pos (2 ^ k))
 
--- what an operator on two numbers gives; none where it divides by 0. Division rounds toward 0, and
--- the remainder has the sign of the dividend
+-- division rounds toward 0, and the remainder has the sign of the dividend; none by 0
+abbrev pub quotient : ℤ → ℤ → Option ℤ
+quotient a b = if int_eq b (pos 0) then None else Some (wrapped (int_div a b))
+
+abbrev pub remainder : ℤ → ℤ → Option ℤ
+remainder a b = if int_eq b (pos 0) then None else Some (int_rem a b)
+
+-- what an operator on two numbers gives; none where it divides by 0
 abbrev pub arithmetic : BinOp → ℤ → ℤ → Option ℤ
 arithmetic op.Add a b = Some (wrapped (a +ℤ b))
 arithmetic op.Sub a b = Some (wrapped (a -ℤ b))
 arithmetic op.Mul a b = Some (wrapped (a *ℤ b))
-arithmetic op.Div a b = if int_eq b (pos 0) then None else Some (wrapped (int_div a b))
-arithmetic op.Mod a b = if int_eq b (pos 0) then None else Some (int_rem a b)
+arithmetic op.Div a b = quotient a b
+arithmetic op.Mod a b = remainder a b
 arithmetic op.And a b = Some (of_residue (bit_and (residue a) (residue b)))
 arithmetic op.Or a b = Some (of_residue (bit_or (residue a) (residue b)))
 arithmetic op.Xor a b = Some (of_residue (bit_xor (residue a) (residue b)))

@@ -70,6 +70,11 @@ module _ (E : Type 0) (s : Setting E) where
   own_name None f = []
   own_name (Some n) f = (n, f) ∷ []
 
+  -- names that are bound one after the other
+  abbrev pub bind_names : List ℕ → List Value → Env → Env
+  bind_names (n ∷ ns) (v ∷ vs) env = bind_names ns vs ((n, v) ∷ env)
+  bind_names _ _ env = env
+
   -- parameters are matched left to right after all arguments are there
   abbrev pub body_run : FunctionCode → Call E → Env → Body → List Value → Run E Value
   body_run f c env (Single body) vs =
@@ -79,7 +84,7 @@ module _ (E : Type 0) (s : Setting E) where
 
   abbrev pub code_run : Call E → Code → List Value → List Value → Run E Value
   code_run c (Source n) held vs = or_stuck (s.code n) >>= λ f.
-      body_run f c (zip f.captures held ++ own_name f.own (Function (Source n) (packed held) no_values)) f.body vs
+      body_run f c (bind_names f.captures held (own_name f.own (Function (Source n) (packed held) no_values))) f.body vs
   code_run c (Primitive o) held vs = operate E s None o vs >>= finish E s (Last 64)
 
   abbrev pub calls : ℕ → Call E

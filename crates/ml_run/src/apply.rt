@@ -275,7 +275,13 @@ fn taken<'a>(
         Some(guard) => Step {
             next: Next::Visit(guard, here.with(env).inner()),
             frame: Some(Frame {
-                then: Then::Guard(arms, next, word, env),
+                then: Then::Guard {
+                    body: &arm.body,
+                    env,
+                    arms,
+                    next,
+                    scrutinee: word,
+                },
                 here,
             }),
         },

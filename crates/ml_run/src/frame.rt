@@ -146,8 +146,15 @@ pub enum Then<'a> {
     BoolAnd(&'a Expr),
     BoolOr(&'a Expr),
     Choose(&'a [Arm]),
-    /// It is the guard of the arm at this place, for this scrutinee and with these names.
-    Guard(&'a [Arm], usize, Word<'a>, Env<'a>),
+    /// It is the guard of an arm: with these names its body follows, and else the arms from `next`
+    /// on are tried for the scrutinee.
+    Guard {
+        body: &'a Expr,
+        env: Env<'a>,
+        arms: &'a [Arm],
+        next: usize,
+        scrutinee: Word<'a>,
+    },
     /// It is the value of the whole.
     Finish,
     /// The region was closed before it; the call of this weight is left.

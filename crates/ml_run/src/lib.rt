@@ -10,16 +10,15 @@ mod number;
 mod operate;
 mod parts;
 mod pattern;
+mod program;
 mod resume;
-mod run;
 mod text;
 mod told;
 mod value;
 mod visit;
 mod weight;
 mod world;
-
-
-pub use run::run;
 #[cfg(test)]
 mod tests;
+
+pub use program::run;

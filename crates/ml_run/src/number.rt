@@ -1,6 +1,6 @@
 //! Whole numbers of 63 bits with sign.
-ghost use Rattle.std.specs.Prelude.{◌≡◌, ◌<◌, ◌≤◌, ◌^◌, ℤ, IfSome};
-ghost use Rattle.ml_meaning.specs.Arithmetic.{residue, of_residue, wrapped, shift_count, shift_left, shift_right, shift_right_signed, arithmetic};
+ghost use Rattle.std.specs.Prelude.{◌≡◌, ◌<◌, ◌≤◌, ◌^◌, ℤ, pos, bit_or, bit_xor, IfSome};
+ghost use Rattle.ml_meaning.specs.Arithmetic.{residue, of_residue, wrapped, shift_count, shift_left, shift_right, shift_right_signed, quotient, remainder, arithmetic};
 
 use ml_tree::BinOp;
 
@@ -42,13 +42,21 @@ fn shift_count(count: i64) -> Option<u32>
     Some(count as u32)
 }
 
+/// 2 to a power.
+fn power(count: u32) -> i64
+    requires { count ≤ 62 }
+    ensures { result ≡ pos (2 ^ count) }
+{
+    (1u64 << count) as i64
+}
+
 fn shift_left(a: i64, count: Option<u32>) -> i64
     requires { IfSome count (λ k. k ≤ 62) }
     ensures { result ≡ shift_left a count }
 {
     match count {
         None => 0,
-        Some(count) => wrapped(a as i128 * (1u64 << count) as i128),
+        Some(count) => wrapped(a as i128 * power(count) as i128),
     }
 }
 
@@ -68,8 +76,47 @@ fn shift_right_signed(a: i64, count: Option<u32>) -> i64
 {
     match count {
         None => if a < 0 { -1 } else { 0 },
-        Some(count) => a.div_euclid(1i64 << count),
+        Some(count) => a.div_euclid(power(count)),
     }
+}
+
+fn quotient(a: i64, b: i64) -> Option<i64>
+    ensures { result ≡ quotient a b }
+{
+    if b == 0 {
+        return None;
+    }
+    Some(wrapped(a as i128 / b as i128))
+}
+
+fn remainder(a: i64, b: i64) -> Option<i64>
+    ensures { result ≡ remainder a b }
+{
+    if b == 0 {
+        return None;
+    }
+    Some((a as i128 % b as i128) as i64)
+}
+
+/// The bits of a combination of the bits of two numbers.
+#[tactic(auto, using(crate::proofs::Numbers::or_below))]
+fn or_bits(a: u64, b: u64) -> u64
+    requires a { a < 2 ^ 63 }
+    requires b { b < 2 ^ 63 }
+    ensures value { result ≡ bit_or a b }
+    ensures bound { result < 2 ^ 63 }
+{
+    a | b
+}
+
+#[tactic(auto, using(crate::proofs::Numbers::xor_below))]
+fn xor_bits(a: u64, b: u64) -> u64
+    requires a { a < 2 ^ 63 }
+    requires b { b < 2 ^ 63 }
+    ensures value { result ≡ bit_xor a b }
+    ensures bound { result < 2 ^ 63 }
+{
+    a ^ b
 }
 
 /// What an operator on two numbers gives; `None` where it divides by 0.
@@ -82,21 +129,11 @@ pub fn arithmetic(op: BinOp, a: i64, b: i64) -> Option<i64>
         BinOp::Add => Some(wrapped(left + right)),
         BinOp::Sub => Some(wrapped(left - right)),
         BinOp::Mul => Some(wrapped(left * right)),
-        BinOp::Div => {
-            if b == 0 {
-                return None;
-            }
-            Some(wrapped(left / right))
-        }
-        BinOp::Mod => {
-            if b == 0 {
-                return None;
-            }
-            Some((left % right) as i64)
-        }
+        BinOp::Div => quotient(a, b),
+        BinOp::Mod => remainder(a, b),
         BinOp::And => Some(of_residue(residue(left) & residue(right))),
-        BinOp::Or => Some(of_residue(residue(left) | residue(right))),
-        BinOp::Xor => Some(of_residue(residue(left) ^ residue(right))),
+        BinOp::Or => Some(of_residue(or_bits(residue(left), residue(right)))),
+        BinOp::Xor => Some(of_residue(xor_bits(residue(left), residue(right)))),
         BinOp::Lsl => Some(shift_left(a, shift_count(b))),
         BinOp::Lsr => Some(shift_right(a, shift_count(b))),
         BinOp::Asr => Some(shift_right_signed(a, shift_count(b))),

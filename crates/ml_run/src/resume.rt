@@ -9,7 +9,7 @@ use crate::value::{Word, Words, and};
 use crate::visit::{advance, chain, sequence};
 use crate::world::World;
 use ml_meaning::Event;
-use ml_tree::{Arm, BinOp, Expr};
+use ml_tree::{BinOp, Expr};
 use oxml_base::NoMemory;
 
 /// A truth value; `None` where it is none.
@@ -89,21 +89,25 @@ fn linked<'a>(
     Ok(Word::Block(1, and(world.bump, head, last)?))
 }
 
+/// An arm whose pattern fits is taken where its guard is true; else the arms behind it are tried.
 fn guarded<'a>(
     world: World<'a>,
     told: &mut Vec<Event>,
     word: Word<'a>,
-    arms: &'a [Arm],
-    next: usize,
-    scrutinee: Word<'a>,
-    env: crate::value::Env<'a>,
+    then: Then<'a>,
     here: Here<'a>,
 ) -> Result<Step<'a>, NoMemory> {
+    let Then::Guard {
+        body,
+        env,
+        arms,
+        next,
+        scrutinee,
+    } = then else {
+        return Err(NoMemory);
+    };
     match test(word) {
-        Some(true) => match arms.get(next.saturating_sub(1)) {
-            Some(arm) => Ok(go_on(Next::Visit(&arm.body, here.with(env)))),
-            None => Err(NoMemory),
-        },
+        Some(true) => Ok(go_on(Next::Visit(body, here.with(env)))),
         Some(false) => choose(world, told, arms, next, scrutinee, here),
         None => Err(NoMemory),
     }
@@ -208,16 +212,7 @@ fn resume_one<'a>(
         Then::BoolAnd(right) => decided(told, word, true, right, here),
         Then::BoolOr(right) => decided(told, word, false, right, here),
         Then::Choose(arms) => choose(world, told, arms, 0, word, here),
-        Then::Guard(arms, next, scrutinee, env) => guarded(
-            world,
-            told,
-            word,
-            arms,
-            next,
-            scrutinee,
-            env,
-            here,
-        ),
+        Then::Guard { .. } => guarded(world, told, word, then, here),
         Then::Finish => finish(told, here.mode, word),
         Then::Exclave(weight) => {
             leave(told, Mode::Last(weight))?;

@@ -159,6 +159,22 @@ impl Maker {
         Ok(list)
     }
 
+    pub fn param(&self, params: &mut Items<Param>, one: Pat) -> Result<(), NoMemory> {
+        params.push(Param {
+            words: NO_WORDS,
+            pat: one,
+        })?;
+        Ok(())
+    }
+
+    /// The top-level function of this name, applied to a text.
+    pub fn call(&mut self, function: u32, text: &[u8]) -> Result<Expr, NoMemory> {
+        let arg = self.text(text)?;
+        let function = self.top(function)?;
+        let args = self.list(arg)?;
+        self.apply(function, args)
+    }
+
     pub fn arms(&self, pat: Pat, guard: Option<Expr>, body: Expr) -> Result<Items<Arm>, NoMemory> {
         let mut list = Items::new(self.alloc);
         list.push(Arm { pat, guard, body })?;

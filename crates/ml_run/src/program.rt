@@ -3,6 +3,7 @@
 use crate::apply::closure;
 use crate::collect::{filled, functions};
 use crate::frame::{Frame, Here, Next, Step};
+use crate::function::Functions;
 use crate::pattern::fit_binds;
 use crate::resume::resume;
 use crate::told::{Failure, Mode, fail};
@@ -202,6 +203,45 @@ fn first_binder(kind: &ItemKind) -> u32 {
     }
 }
 
+/// Evaluates the items of a program in order.
+fn run_items<'a>(
+    world: World<'a>,
+    fuel: u64,
+    out: &mut Vec<Event>,
+) -> Result<Ending, NoMemory> {
+    let program = world.scoped.program();
+    let mut tops = filled(world.alloc, program.nodes as usize, None)?;
+    for one in program.items.as_slice() {
+        let ended = item(world, tops.as_mut_slice(), out, one, fuel)?;
+        match ended {
+            Some(ending) => return Ok(ending),
+            None => {}
+        }
+    }
+    Ok(Ending::Exit(0))
+}
+
+/// Evaluates a program with its tables at hand.
+fn run_with<'a>(
+    alloc: Global,
+    bump: &'a Bump,
+    s: &'a Scoped,
+    functions: &'a Functions<'a>,
+    decls: &'a [&'a Decl],
+    fuel: u64,
+    out: &mut Vec<Event>,
+) -> Result<Ending, NoMemory> {
+    let world = World {
+        alloc,
+        bump,
+        scoped: s,
+        functions,
+        decls,
+        append: append_binder(s.program()),
+    };
+    run_items(world, fuel, out)
+}
+
 /// Evaluates a program with so much fuel, appends the events of its trace and answers how it ends.
 ///
 /// The body of a call has one unit of fuel less than the call, and `More` comes where a call is due
@@ -215,21 +255,6 @@ pub fn run(
 ) -> Result<Ending, NoMemory> {
     let bump = Bump::new(alloc);
     let functions = functions(alloc, s)?;
-    let program = s.program();
-    let decls = declarations(alloc, program.items.as_slice())?;
-    let world = World {
-        alloc,
-        bump: &bump,
-        scoped: s,
-        functions: &functions,
-        decls: decls.as_slice(),
-        append: append_binder(program),
-    };
-    let mut tops = filled(alloc, program.nodes as usize, None)?;
-    for one in program.items.as_slice() {
-        if let Some(ending) = item(world, tops.as_mut_slice(), out, one, fuel)? {
-            return Ok(ending);
-        }
-    }
-    Ok(Ending::Exit(0))
+    let decls = declarations(alloc, s.program().items.as_slice())?;
+    run_with(alloc, &bump, s, &functions, decls.as_slice(), fuel, out)
 }
