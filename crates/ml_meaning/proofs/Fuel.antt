@@ -1,6 +1,5 @@
 -- A program at more fuel: its trace begins with the trace at less, and an end by exit stays.
-use Rattle.std.proofs.Common.{◌≡◌, ℕ, zero, suc, ◌+◌, ◌-◌, ◌≤◌, Bool, List, [], ◌∷◌, ◌++◌, map, Option, Some, None, refl, sym, ap, ◌∙◌, subst, arith, append-nil, append_assoc}
-use Rattle.std.specs.List.{zip}
+use Rattle.std.proofs.Common.{◌≡◌, ℕ, zero, suc, ◌+◌, ◌-◌, ◌≤◌, List, [], ◌∷◌, ◌++◌, map, None, refl, sym, ap, ◌∙◌, subst, arith, append-nil, append_assoc}
 use Rattle.ml_tree.specs.declared.expr.Arm.{Arm}
 use Rattle.ml_tree.specs.declared.expr.Bind.{Bind}
 use Rattle.ml_tree.specs.declared.program.Item.{Item}
@@ -13,11 +12,11 @@ use Rattle.ml_meaning.specs.declared.event.Ending.TheVariants as ending
 use Rattle.ml_meaning.specs.Values.{Value, Function, Code, Source, Primitive, no_values, packed}
 use Rattle.ml_meaning.specs.Patterns.{Env, fits, all_fit}
 use Rattle.ml_meaning.specs.Functions.{FunctionCode, Body, Single, Cases}
-use Rattle.ml_meaning.specs.Runs.{Run, Done, Stop, Stopped, Ended, Stuck, trace, after, ◌>>=◌}
+use Rattle.ml_meaning.specs.Runs.{Run, Done, Stop, Ended, Stuck, trace, ◌>>=◌}
 use Rattle.ml_meaning.specs.Growth.{Begins, GoesOn}
-use Rattle.ml_meaning.specs.Tellings.{Setting, Mode, Last, Call, Meaning, or_stuck, finish}
+use Rattle.ml_meaning.specs.Tellings.{Setting, Last, Call, or_stuck, finish}
 use Rattle.ml_meaning.specs.Operations.{operate}
-use Rattle.ml_meaning.specs.Programs.{expr_meaning, arm_meaning, bind_meaning, evaluate, own_name, bind_names, body_run, code_run, calls, item_weight, bound, item_run, item_evaluated, setting, items_run, program_run, answer, eval}
+use Rattle.ml_meaning.specs.Programs.{arm_meaning, bind_meaning, own_name, bind_names, body_run, code_run, calls, item_weight, bound, item_run, item_evaluated, setting, items_run, program_run, answer, eval}
 use Rattle.ml_meaning.proofs.Rising.{begins-same, goes_same, goes_after, goes_bind}
 use Rattle.ml_meaning.proofs.Steady.{AllGo, AllArmsGo, CallGoes, goes_values, goes_matched, goes_choose}
 use Rattle.ml_meaning.proofs.Trees.{expr_is_steady, arm_is_steady, bind_is_steady}
@@ -41,7 +40,7 @@ module _ (E : Type 0) (s : Setting E) where
   goes_code : (c d : Call E) → CallGoes E c d → (code : Code) (held vs : List Value) → GoesOn (code_run E s c code held vs) (code_run E s d code held vs)
   goes_code c d h (Source n) held vs =
       goes_bind (or_stuck (s.code n)) (or_stuck (s.code n)) _ _ (goes_same (or_stuck (s.code n)))
-        (λ f. goes_body f c d h (bind_names E s f.captures held (own_name E s f.own (Function (Source n) (packed held) no_values))) f.body vs)
+      (λ f. goes_body f c d h (bind_names E s f.captures held (own_name E s f.own (Function (Source n) (packed held) no_values))) f.body vs)
   goes_code c d h (Primitive o) held vs = goes_same (operate E s None o vs >>= finish E s (Last 64))
 
   pub goes_calls : (n : ℕ) → CallGoes E (calls E s n) (calls E s (suc n))
@@ -53,12 +52,12 @@ module _ (E : Type 0) (s : Setting E) where
   goes_item n (item.Types decls) = refl
   goes_item n (item.Let recursive binds) =
       goes_bind _ _ _ _ (goes_values E s (map (λ b. (bind_meaning E s b).value) binds) (all_binds binds) (calls E s n) (calls E s (suc n)) (goes_calls n) [])
-        (λ vs. goes_same (bound E s (all_fit (map (λ b. (bind_meaning E s b).fits) binds) vs)))
+      (λ vs. goes_same (bound E s (all_fit (map (λ b. (bind_meaning E s b).fits) binds) vs)))
 
   pub goes_evaluated : (n : ℕ) (kind : ItemKind) → GoesOn (item_evaluated E s n kind) (item_evaluated E s (suc n) kind)
   goes_evaluated n kind =
       goes_after (s.told (event.Enter (item_weight E s kind)) ++ s.told event.Open) _ _
-        (goes_bind (item_run E s n kind) (item_run E s (suc n) kind) _ _ (goes_item n kind) (λ xs. goes_same (finish E s (Last (item_weight E s kind)) xs)))
+      (goes_bind (item_run E s n kind) (item_run E s (suc n) kind) _ _ (goes_item n kind) (λ xs. goes_same (finish E s (Last (item_weight E s kind)) xs)))
 
 module _ (E : Type 0) (told : Event → List E) (visit : List E) (program : Scoped) where
   goes_items : (n : ℕ) (items : List Item) (tops : Env) → GoesOn (items_run E told visit program n items tops) (items_run E told visit program (suc n) items tops)
@@ -92,7 +91,7 @@ begins-later s n zero = subst (λ m. Begins (eval n s).0 (eval m s).0) (omega ar
 begins-later s n (suc k) =
     let more : suc (k + n) ≡ suc k + n = omega arith in
     subst (λ m. Begins (eval n s).0 (eval m s).0) more
-      (begins-trans _ _ _ (begins-later s n k) (begins-answer _ _ (goes_program Event (λ e. e ∷ []) [] s (k + n))))
+    (begins-trans _ _ _ (begins-later s n k) (begins-answer _ _ (goes_program Event (λ e. e ∷ []) [] s (k + n))))
 
 -- the trace at less fuel begins the trace at more
 pub traces_begin : (s : Scoped) (n m : ℕ) → n ≤ m → Begins (eval n s).0 (eval m s).0
@@ -105,8 +104,8 @@ exits-later s n (suc k) status e =
     let more : suc k + n ≡ suc (k + n) = omega arith in
     let before : eval (k + n) s ≡ eval n s = exits-later s n k status e in
     ap (λ m. eval m s) more
-      ∙ exits-answer _ _ (goes_program Event (λ e. e ∷ []) [] s (k + n)) status (ap (λ a. a.1) before ∙ e)
-      ∙ before
+    ∙ exits-answer _ _ (goes_program Event (λ e. e ∷ []) [] s (k + n)) status (ap (λ a. a.1) before ∙ e)
+    ∙ before
 
 -- an exit stays at every greater number
 pub exits_stay : (s : Scoped) (n m status : ℕ) → n ≤ m → (eval n s).1 ≡ Ended (ending.Exit status) → eval m s ≡ eval n s

@@ -1,7 +1,7 @@
 -- Runs that go on with more fuel: the small runs, and what `after` and `>>=` keep.
-use Rattle.std.proofs.Common.{◌≡◌, ℕ, List, [], ◌∷◌, ◌++◌, refl, sym, ap, ◌∙◌, subst, append_assoc, append-nil, Option, Some, None}
+use Rattle.std.proofs.Common.{◌≡◌, List, [], ◌++◌, refl, sym, ap, ◌∙◌, subst, append_assoc, append-nil}
 use Rattle.ml_meaning.specs.declared.event.Ending.TheVariants as ending
-use Rattle.ml_meaning.specs.Runs.{Run, Done, Stop, Stopped, Ended, Stuck, trace, after, ◌>>=◌}
+use Rattle.ml_meaning.specs.Runs.{Run, Done, Stop, Ended, Stuck, trace, after, ◌>>=◌}
 use Rattle.ml_meaning.specs.Growth.{Begins, GoesOn}
 
 pub begins-same : {A : Type 0} (xs : List A) → Begins xs xs

@@ -1,20 +1,18 @@
 -- A meaning is steady where calls that go on with more fuel make it go on. Every part of an
 -- evaluation keeps that.
-use Rattle.std.proofs.Common.{◌≡◌, ℕ, zero, suc, ◌+◌, Bool, true, false, List, [], ◌∷◌, ◌++◌, length, map, take, drop, Option, Some, None, refl, sym, ap, ◌∙◌, subst, if◌then◌else◌, nat_eq, nat_le}
+use Rattle.std.proofs.Common.{◌≡◌, ℕ, zero, suc, ◌+◌, Bool, true, false, List, [], ◌∷◌, ◌++◌, length, Option, Some, None, refl, subst, if◌then◌else◌, nat_eq, nat_le}
 use Rattle.ml_tree.specs.declared.reference.Op.{Op}
-use Rattle.ml_tree.specs.declared.pattern.ConName.{ConName}
 use Rattle.ml_tree.specs.declared.expr.BinOp.{BinOp}
 use Rattle.ml_tree.specs.declared.expr.BinOp.TheVariants as op
 use Rattle.ml_meaning.specs.declared.event.Event.{Event}
 use Rattle.ml_meaning.specs.declared.event.Event.TheVariants as event
-use Rattle.ml_meaning.specs.Values.{Value, Number, Character, Bytes, Constant, Block, Function, Code, packed, listed, cell, true_value, false_value, unit_value}
-use Rattle.ml_meaning.specs.Patterns.{Env, Fits}
-use Rattle.ml_meaning.specs.Runs.{Run, Done, Stop, Stuck, after, ◌>>=◌}
+use Rattle.ml_meaning.specs.Values.{Value, Number, Character, Bytes, Constant, Block, Function, Code, packed, listed, true_value, false_value}
+use Rattle.ml_meaning.specs.Patterns.{Env}
+use Rattle.ml_meaning.specs.Runs.{Run, after, ◌>>=◌}
 use Rattle.ml_meaning.specs.Growth.{GoesOn}
-use Rattle.ml_meaning.specs.Tellings.{Setting, Mode, Inner, Last, Call, Meaning, or_stuck, branch, fail, made, closes, leaves, finish}
-use Rattle.ml_meaning.specs.Operations.{operate, operation_arity, operator, negated}
-use Rattle.ml_meaning.specs.Evaluation
-use Rattle.ml_meaning.specs.Evaluation.{Form, Ordinary, Named, Several, Builds, ExprMeaning, ArmMeaning, BindMeaning, inside, operation_named, values, block, chain, sequence, fields_of, field_count, arranged, called, given, applied, apply_value, arity, call_weight, entry, operation_result, operation_applied, function_applied, application, matched, guarded, taken, choose, building, constructed, binary, both_operands, or_unit, exclave, overwritten, closure, partial_made}
+use Rattle.ml_meaning.specs.Tellings.{Setting, Mode, Inner, Last, Call, Meaning, or_stuck, branch, closes, finish}
+use Rattle.ml_meaning.specs.Operations.{operation_arity}
+use Rattle.ml_meaning.specs.Evaluation.{Form, Ordinary, Named, Several, Builds, ExprMeaning, ArmMeaning, values, chain, sequence, fields_of, called, given, applied, apply_value, arity, entry, operation_applied, function_applied, application, matched, guarded, taken, choose, building, binary, both_operands, exclave, overwritten, closure, partial_made}
 use Rattle.ml_meaning.proofs.Rising.{goes_same, goes_after, goes_bind}
 
 abbrev pub CallGoes : (E : Type 0) → Call E → Call E → Type 0
@@ -68,20 +66,22 @@ module _ (E : Type 0) (s : Setting E) where
   goes_values [] all c d h env = refl
   goes_values (m ∷ ms) all c d h env =
       goes_bind (values E s ms c env) (values E s ms d env) _ _ (goes_values ms all.1 c d h env)
-        (λ vs. goes_bind (m c Inner env) (m d Inner env) _ _ (all.0.by c d h Inner env) (λ v. refl))
+      (λ vs. goes_bind (m c Inner env) (m d Inner env) _ _ (all.0.by c d h Inner env) (λ v. refl))
 
   pub goes_chain : (node : ℕ) (ms : List (Meaning E)) → AllGo E ms → (c d : Call E) → CallGoes E c d → (env : Env) → GoesOn (chain E s node ms c env) (chain E s node ms d env)
   goes_chain node [] all c d h env = refl
   goes_chain node (m ∷ ms) all c d h env =
       goes_bind (chain E s node ms c env) (chain E s node ms d env) _ _ (goes_chain node ms all.1 c d h env)
-        (λ vs. goes_bind (m c Inner env) (m d Inner env) _ _ (all.0.by c d h Inner env) (λ v. refl))
+      (λ vs. goes_bind (m c Inner env) (m d Inner env) _ _ (all.0.by c d h Inner env) (λ v. refl))
 
   pub goes_sequence : (ms : List (Meaning E)) → AllGo E ms → Goes E (sequence E s ms)
   goes_sequence [] all = record { by = λ c d h mode env. refl }
   goes_sequence (m ∷ []) all = record { by = λ c d h mode env. all.0.by c d h mode env }
-  goes_sequence (m ∷ (n ∷ ms)) all = record { by = λ c d h mode env.
-      goes_bind (m c Inner env) (m d Inner env) _ _ (all.0.by c d h Inner env)
-        (λ v. (goes_sequence (n ∷ ms) all.1).by c d h mode env) }
+  goes_sequence (m ∷ (n ∷ ms)) all = record {
+    by = λ c d h mode env.
+        goes_bind (m c Inner env) (m d Inner env) _ _ (all.0.by c d h Inner env)
+        (λ v. (goes_sequence (n ∷ ms) all.1).by c d h mode env);
+  }
 
   pub goes_called : (c d : Call E) → CallGoes E c d → (mode : Mode) (vs : List Value) (r q : Value → Run E Value) → ((v : Value) → GoesOn (r v) (q v)) → (code : Code) (held args : List Value) → GoesOn (called E s c mode vs r code held args) (called E s d mode vs q code held args)
   goes_called c d h mode [] r q g code held args = h (entry E s mode code) code held args
@@ -91,8 +91,8 @@ module _ (E : Type 0) (s : Setting E) where
   pub goes_given : (c d : Call E) → CallGoes E c d → (mode : Mode) (vs : List Value) (r q : Value → Run E Value) → ((v : Value) → GoesOn (r v) (q v)) → (v f : Value) → GoesOn (given E s c mode vs r v f) (given E s d mode vs q v f)
   goes_given c d h mode vs r q g v (Function code held args) =
       goes_if (nat_eq (length (listed args) + 1) (arity E s code)) _ _ _ _
-        (goes_called c d h mode vs r q g code (listed held) (listed args ++ (v ∷ [])))
-        (g (Function code held (packed (listed args ++ (v ∷ [])))))
+      (goes_called c d h mode vs r q g code (listed held) (listed args ++ (v ∷ [])))
+      (g (Function code held (packed (listed args ++ (v ∷ [])))))
   goes_given c d h mode vs r q g v (Number z) = refl
   goes_given c d h mode vs r q g v (Character b) = refl
   goes_given c d h mode vs r q g v (Bytes b) = refl
@@ -109,13 +109,17 @@ module _ (E : Type 0) (s : Setting E) where
       goes_after (closes E s mode) (applied E s node c mode vs f) (applied E s node d mode vs f) (goes_applied node c d h mode vs f)
 
   pub goes_operation : (node : ℕ) (o : Op) (es : List (Meaning E)) → AllGo E es → Goes E (operation_applied E s node o es)
-  goes_operation node o es all = record { by = λ c d h mode env.
-      goes_bind (values E s es c env) (values E s es d env) _ _ (goes_values es all c d h env) (λ vs. goes_same _) }
+  goes_operation node o es all = record {
+    by = λ c d h mode env.
+        goes_bind (values E s es c env) (values E s es d env) _ _ (goes_values es all c d h env) (λ vs. goes_same _);
+  }
 
   pub goes_function : (node : ℕ) (f : Meaning E) (es : List (Meaning E)) → Goes E f → AllGo E es → Goes E (function_applied E s node f es)
-  goes_function node f es g all = record { by = λ c d h mode env.
-      goes_bind (values E s es c env) (values E s es d env) _ _ (goes_values es all c d h env)
-        (λ vs. goes_bind (f c Inner env) (f d Inner env) _ _ (g.by c d h Inner env) (λ v. goes_apply_value node c d h mode vs v)) }
+  goes_function node f es g all = record {
+    by = λ c d h mode env.
+        goes_bind (values E s es c env) (values E s es d env) _ _ (goes_values es all c d h env)
+        (λ vs. goes_bind (f c Inner env) (f d Inner env) _ _ (g.by c d h Inner env) (λ v. goes_apply_value node c d h mode vs v));
+  }
 
   pub goes_either : (b : Bool) (m n : Meaning E) → Goes E m → Goes E n → Goes E (if b then m else n)
   goes_either true m n g h = g
@@ -150,8 +154,11 @@ module _ (E : Type 0) (s : Setting E) where
   pub goes_building : (node : ℕ) (place : Option ℕ) (ms : List (Meaning E)) → AllGo E ms → ExprGoes E (building E s node place ms)
   goes_building node place ms all = record {
     form = all;
-    run = record { by = λ c d h mode env.
-      goes_bind (values E s ms c env) (values E s ms d env) _ _ (goes_values ms all c d h env) (λ vs. goes_same _) } }
+    run = record {
+      by = λ c d h mode env.
+          goes_bind (values E s ms c env) (values E s ms d env) _ _ (goes_values ms all c d h env) (λ vs. goes_same _);
+    };
+  }
 
   pub goes_fields : (n : ℕ) (form : Form (Meaning E)) (m : Meaning E) → FormGoes E form → Goes E m → AllGo E (fields_of E s n (record { form = form; run = m }))
   goes_fields (suc zero) form m f g = (g, tt)
@@ -165,22 +172,30 @@ module _ (E : Type 0) (s : Setting E) where
   goes_fields (suc (suc n)) (Builds place ms) m f g = (g, tt)
 
   pub goes_operands : (node : ℕ) (o : BinOp) (a b : Meaning E) → Goes E a → Goes E b → Goes E (both_operands E s node o a b)
-  goes_operands node o a b g k = record { by = λ c d h mode env.
-      goes_bind (b c Inner env) (b d Inner env) _ _ (k.by c d h Inner env)
-        (λ y. goes_bind (a c Inner env) (a d Inner env) _ _ (g.by c d h Inner env) (λ x. goes_same _)) }
+  goes_operands node o a b g k = record {
+    by = λ c d h mode env.
+        goes_bind (b c Inner env) (b d Inner env) _ _ (k.by c d h Inner env)
+        (λ y. goes_bind (a c Inner env) (a d Inner env) _ _ (g.by c d h Inner env) (λ x. goes_same _));
+  }
 
   pub goes_binary : (node : ℕ) (o : BinOp) (a b : Meaning E) → Goes E a → Goes E b → Goes E (binary E s node o a b)
-  goes_binary node op.BoolAnd a b g k = record { by = λ c d h mode env.
-      goes_bind (a c Inner env) (a d Inner env) _ _ (g.by c d h Inner env)
-        (λ t. goes_branch t (b c mode env) (b d mode env) _ _ (k.by c d h mode env) (goes_same (finish E s mode false_value))) }
-  goes_binary node op.BoolOr a b g k = record { by = λ c d h mode env.
-      goes_bind (a c Inner env) (a d Inner env) _ _ (g.by c d h Inner env)
-        (λ t. goes_branch t _ _ (b c mode env) (b d mode env) (goes_same (finish E s mode true_value)) (k.by c d h mode env)) }
-  goes_binary node op.Append a b g k = record { by = λ c d h mode env.
-      goes_bind (b c Inner env) (b d Inner env) _ _ (k.by c d h Inner env)
+  goes_binary node op.BoolAnd a b g k = record {
+    by = λ c d h mode env.
+        goes_bind (a c Inner env) (a d Inner env) _ _ (g.by c d h Inner env)
+        (λ t. goes_branch t (b c mode env) (b d mode env) _ _ (k.by c d h mode env) (goes_same (finish E s mode false_value)));
+  }
+  goes_binary node op.BoolOr a b g k = record {
+    by = λ c d h mode env.
+        goes_bind (a c Inner env) (a d Inner env) _ _ (g.by c d h Inner env)
+        (λ t. goes_branch t _ _ (b c mode env) (b d mode env) (goes_same (finish E s mode true_value)) (k.by c d h mode env));
+  }
+  goes_binary node op.Append a b g k = record {
+    by = λ c d h mode env.
+        goes_bind (b c Inner env) (b d Inner env) _ _ (k.by c d h Inner env)
         (λ y. goes_bind (a c Inner env) (a d Inner env) _ _ (g.by c d h Inner env)
-          (λ x. goes_bind (or_stuck (s.top s.append)) (or_stuck (s.top s.append)) _ _ (goes_same (or_stuck (s.top s.append)))
-            (λ f. goes_apply_value node c d h mode (x ∷ (y ∷ [])) f))) }
+        (λ x. goes_bind (or_stuck (s.top s.append)) (or_stuck (s.top s.append)) _ _ (goes_same (or_stuck (s.top s.append)))
+        (λ f. goes_apply_value node c d h mode (x ∷ (y ∷ [])) f)));
+  }
   goes_binary node op.Add a b g k = goes_operands node op.Add a b g k
   goes_binary node op.Sub a b g k = goes_operands node op.Sub a b g k
   goes_binary node op.Mul a b g k = goes_operands node op.Mul a b g k
@@ -209,8 +224,10 @@ module _ (E : Type 0) (s : Setting E) where
           goes_after (s.told event.Close) _ _ (goes_bind (a c Inner env) (a d Inner env) _ _ (g.by c d h Inner env) (λ v. refl))
 
   pub goes_overwritten : (node : ℕ) (form : Form (Meaning E)) → FormGoes E form → Goes E (overwritten E s node form)
-  goes_overwritten node (Builds place ms) all = record { by = λ c d h mode env.
-      goes_bind (values E s ms c env) (values E s ms d env) _ _ (goes_values ms all c d h env) (λ vs. goes_same _) }
+  goes_overwritten node (Builds place ms) all = record {
+    by = λ c d h mode env.
+        goes_bind (values E s ms c env) (values E s ms d env) _ _ (goes_values ms all c d h env) (λ vs. goes_same _);
+  }
   goes_overwritten node Ordinary all = record { by = λ c d h mode env. refl }
   goes_overwritten node (Named o) all = record { by = λ c d h mode env. refl }
   goes_overwritten node (Several ms) all = record { by = λ c d h mode env. refl }
@@ -221,28 +238,38 @@ module _ (E : Type 0) (s : Setting E) where
 
   -- one part, and then what asks for no call
   pub goes_then : (a : Meaning E) (k : Mode → Env → Value → Run E Value) → Goes E a → Goes E (λ c mode env. a c Inner env >>= k mode env)
-  goes_then a k g = record { by = λ c d h mode env.
-      goes_bind (a c Inner env) (a d Inner env) _ _ (g.by c d h Inner env) (λ v. goes_same (k mode env v)) }
+  goes_then a k g = record {
+    by = λ c d h mode env.
+        goes_bind (a c Inner env) (a d Inner env) _ _ (g.by c d h Inner env) (λ v. goes_same (k mode env v));
+  }
 
   pub goes_closure : (node : ℕ) → Goes E (closure E s node)
   goes_closure node = record { by = λ c d h mode env. goes_same (closure E s node c mode env) }
 
   -- parts, and then what asks for no call
   pub goes_values_then : (ms : List (Meaning E)) (k : Mode → Env → List Value → Run E Value) → AllGo E ms → Goes E (λ c mode env. values E s ms c env >>= k mode env)
-  goes_values_then ms k all = record { by = λ c d h mode env.
-      goes_bind (values E s ms c env) (values E s ms d env) _ _ (goes_values ms all c d h env) (λ vs. goes_same (k mode env vs)) }
+  goes_values_then ms k all = record {
+    by = λ c d h mode env.
+        goes_bind (values E s ms c env) (values E s ms d env) _ _ (goes_values ms all c d h env) (λ vs. goes_same (k mode env vs));
+  }
 
   pub goes_chain_then : (node : ℕ) (ms : List (Meaning E)) (k : Mode → Env → Value → Run E Value) → AllGo E ms → Goes E (λ c mode env. chain E s node ms c env >>= k mode env)
-  goes_chain_then node ms k all = record { by = λ c d h mode env.
-      goes_bind (chain E s node ms c env) (chain E s node ms d env) _ _ (goes_chain node ms all c d h env) (λ v. goes_same (k mode env v)) }
+  goes_chain_then node ms k all = record {
+    by = λ c d h mode env.
+        goes_bind (chain E s node ms c env) (chain E s node ms d env) _ _ (goes_chain node ms all c d h env) (λ v. goes_same (k mode env v));
+  }
 
   pub goes_let : (ms : List (Meaning E)) (o : List Value → Option Env) (m : Meaning E) → AllGo E ms → Goes E m → Goes E (λ c mode env. values E s ms c env >>= λ vs. matched E s (o vs) (λ xs. m c mode (xs ++ env)))
-  goes_let ms o m all g = record { by = λ c d h mode env.
-      goes_bind (values E s ms c env) (values E s ms d env) _ _ (goes_values ms all c d h env)
-        (λ vs. goes_matched (o vs) _ _ (λ xs. g.by c d h mode (xs ++ env))) }
+  goes_let ms o m all g = record {
+    by = λ c d h mode env.
+        goes_bind (values E s ms c env) (values E s ms d env) _ _ (goes_values ms all c d h env)
+        (λ vs. goes_matched (o vs) _ _ (λ xs. g.by c d h mode (xs ++ env)));
+  }
 
   pub goes_borrow : (o : Env → Option Value) (node : ℕ) (m : Meaning E) → Goes E m → Goes E (λ c mode env. or_stuck (o env) >>= λ v. after (s.told event.Open) (m c Inner ((node, v) ∷ env) >>= λ r. after (s.told event.Close) (finish E s mode r)))
-  goes_borrow o node m g = record { by = λ c d h mode env.
-      goes_bind (or_stuck (o env)) (or_stuck (o env)) _ _ (goes_same (or_stuck (o env)))
+  goes_borrow o node m g = record {
+    by = λ c d h mode env.
+        goes_bind (or_stuck (o env)) (or_stuck (o env)) _ _ (goes_same (or_stuck (o env)))
         (λ v. goes_after (s.told event.Open) _ _ (goes_bind (m c Inner ((node, v) ∷ env)) (m d Inner ((node, v) ∷ env)) _ _ (g.by c d h Inner ((node, v) ∷ env))
-          (λ r. goes_same (after (s.told event.Close) (finish E s mode r))))) }
+        (λ r. goes_same (after (s.told event.Close) (finish E s mode r)))));
+  }

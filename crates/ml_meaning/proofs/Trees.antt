@@ -1,27 +1,26 @@
-use Rattle.std.proofs.Common.{◌≡◌, ℕ, zero, suc, Bool, true, false, List, [], ◌∷◌, ◌++◌, map, Option, Some, None, refl, sym, ap, ◌∙◌, subst}
-use Rattle.ml_tree.specs.declared.expr.Expr.{Expr, fold-Expr, ind-Expr, fold-roll-Expr, map-Expr, roll-Expr}
+use Rattle.std.proofs.Common.{◌≡◌, ℕ, List, [], ◌∷◌, map, Option, Some, None, refl, sym, subst}
+use Rattle.ml_tree.specs.declared.expr.Expr.{Expr, ind-Expr, fold-roll-Expr, map-Expr, roll-Expr}
 use Rattle.ml_tree.specs.declared.reference.Op.TheVariants as operation
 use Rattle.ml_tree.specs.declared.pattern.Pat.{Pat}
 use Rattle.ml_tree.specs.declared.pattern.Param.{Param}
 use Rattle.ml_tree.specs.declared.types.TyExpr.{TyExpr}
 use Rattle.ml_tree.specs.declared.reference.Ref.{Ref}
 use Rattle.ml_tree.specs.declared.reference.Ref.TheVariants as ref
-use Rattle.ml_tree.specs.declared.expr.Arm.{Arm, ind-Arm, fold-Arm, fold-roll-Arm, map-Arm, roll-Arm}
-use Rattle.ml_tree.specs.declared.expr.Bind.{Bind, ind-Bind, fold-Bind, fold-roll-Bind, map-Bind, roll-Bind}
+use Rattle.ml_tree.specs.declared.expr.Arm.{Arm, ind-Arm, fold-roll-Arm, map-Arm, roll-Arm}
+use Rattle.ml_tree.specs.declared.expr.Bind.{Bind, ind-Bind, fold-roll-Bind, map-Bind, roll-Bind}
 use Rattle.ml_tree.specs.declared.expr.FieldExpr.{FieldExpr, fold-FieldExpr, fold-roll-FieldExpr, map-FieldExpr, roll-FieldExpr}
 use Rattle.ml_tree.specs.declared.expr.ExprKind.{ExprKind, fold-ExprKind, fold-roll-ExprKind, map-ExprKind, roll-ExprKind}
 use Rattle.ml_tree.specs.declared.expr.ExprKind.TheOpen as e
 use Rattle.ml_tree.specs.declared.expr.ExprKind.TheOpen.{ExprKind-F, Arm-F, Bind-F, Expr-F, FieldExpr-F}
-use Rattle.ml_meaning.specs.Runs.{Run, Done, Stop, Stuck, after, ◌>>=◌}
-use Rattle.ml_meaning.specs.declared.event.Event.TheVariants as event
-use Rattle.ml_meaning.specs.Values.{Value, unit_value}
+use Rattle.ml_meaning.specs.Runs.{◌>>=◌}
+use Rattle.ml_meaning.specs.Values.{unit_value}
 use Rattle.ml_meaning.specs.Patterns.{all_fit}
-use Rattle.ml_meaning.specs.Tellings.{Setting, Mode, Inner, Last, Call, Meaning, or_stuck, branch, finish, named}
-use Rattle.ml_meaning.specs.Evaluation.{Form, Ordinary, Named, Several, Builds, ExprMeaning, ArmMeaning, BindMeaning, step, plain, inside, operation_named, values, chain, field_count, arranged, block}
+use Rattle.ml_meaning.specs.Tellings.{Setting, Inner, Meaning, or_stuck, finish, named}
+use Rattle.ml_meaning.specs.Evaluation.{Form, Ordinary, Named, Several, Builds, ExprMeaning, ArmMeaning, BindMeaning, step, plain, inside, operation_named, field_count, arranged, block}
 use Rattle.ml_meaning.specs.Operations.{operate}
-use Rattle.ml_meaning.specs.Programs.{arm_step, bind_step, expr_step, field_step, expr_meaning, arm_meaning, bind_meaning, evaluate}
+use Rattle.ml_meaning.specs.Programs.{arm_step, bind_step, expr_step, field_step, expr_meaning, arm_meaning, bind_meaning}
 use Rattle.ml_meaning.proofs.Rising.{goes_same, goes_after, goes_bind}
-use Rattle.ml_meaning.proofs.Steady.{Goes, AllGo, AllArmsGo, FormGoes, ExprGoes, ArmGoes, CallGoes, goes_branch, goes_values, goes_chain, goes_sequence, goes_application, goes_matched, goes_choose, goes_building, goes_fields, goes_binary, goes_exclave, goes_overwritten, goes_then, goes_closure, goes_values_then, goes_chain_then, goes_let, goes_borrow}
+use Rattle.ml_meaning.proofs.Steady.{Goes, AllGo, AllArmsGo, FormGoes, ExprGoes, ArmGoes, goes_branch, goes_sequence, goes_application, goes_choose, goes_building, goes_fields, goes_binary, goes_exclave, goes_overwritten, goes_then, goes_closure, goes_values_then, goes_chain_then, goes_let, goes_borrow}
 
 module _ (E : Type 0) (s : Setting E) where
   abbrev kind_meaning : ExprKind → ℕ → ExprMeaning E
@@ -134,17 +133,23 @@ module _ (E : Type 0) (s : Setting E) where
   kind_goes (e.Apply f es) node = goes_plain _ (goes_application E s node (expr_meaning E s f.0).form (expr_meaning E s f.0).run _ f.1.run (parts_go es))
   kind_goes (e.Binary o a b) node = goes_plain _ (goes_binary E s node o (run_of a) (run_of b) a.1.run b.1.run)
   kind_goes (e.Minus a) node = goes_plain _ (goes_then E s (run_of a) _ a.1.run)
-  kind_goes (e.If a b None) node = goes_plain _ (record { by = λ c d h mode env.
-      goes_bind (run_of a c Inner env) (run_of a d Inner env) _ _ (a.1.run.by c d h Inner env)
-        (λ t. goes_branch t (run_of b c mode env) (run_of b d mode env) _ _ (b.1.run.by c d h mode env) (goes_same (finish E s mode unit_value))) })
-  kind_goes (e.If a b (Some other)) node = goes_plain _ (record { by = λ c d h mode env.
-      goes_bind (run_of a c Inner env) (run_of a d Inner env) _ _ (a.1.run.by c d h Inner env)
-        (λ t. goes_branch t (run_of b c mode env) (run_of b d mode env) (run_of other c mode env) (run_of other d mode env) (b.1.run.by c d h mode env) (other.1.run.by c d h mode env)) })
+  kind_goes (e.If a b None) node = goes_plain _ (record {
+    by = λ c d h mode env.
+        goes_bind (run_of a c Inner env) (run_of a d Inner env) _ _ (a.1.run.by c d h Inner env)
+        (λ t. goes_branch t (run_of b c mode env) (run_of b d mode env) _ _ (b.1.run.by c d h mode env) (goes_same (finish E s mode unit_value)));
+  })
+  kind_goes (e.If a b (Some other)) node = goes_plain _ (record {
+    by = λ c d h mode env.
+        goes_bind (run_of a c Inner env) (run_of a d Inner env) _ _ (a.1.run.by c d h Inner env)
+        (λ t. goes_branch t (run_of b c mode env) (run_of b d mode env) (run_of other c mode env) (run_of other d mode env) (b.1.run.by c d h mode env) (other.1.run.by c d h mode env));
+  })
   kind_goes (e.Let recursive binds body) node = goes_plain _ (goes_let E s (map (λ b. b.value) (map (bind_meaning E s) (map (λ q. q.0) binds))) (λ vs. all_fit (map (λ b. b.fits) (map (bind_meaning E s) (map (λ q. q.0) binds))) vs) (run_of body) (binds_go binds) body.1.run)
   kind_goes (e.Seq es) node = goes_plain _ (goes_sequence E s _ (parts_go es))
-  kind_goes (e.Match a arms) node = goes_plain _ (record { by = λ c d h mode env.
-      goes_bind (run_of a c Inner env) (run_of a d Inner env) _ _ (a.1.run.by c d h Inner env)
-        (λ v. goes_choose E s _ (arms_go arms) c d h mode env v) })
+  kind_goes (e.Match a arms) node = goes_plain _ (record {
+    by = λ c d h mode env.
+        goes_bind (run_of a c Inner env) (run_of a d Inner env) _ _ (a.1.run.by c d h Inner env)
+        (λ v. goes_choose E s _ (arms_go arms) c d h mode env v);
+  })
   kind_goes (e.Fun params body) node = goes_plain _ (goes_closure E s node)
   kind_goes (e.Function arms) node = goes_plain _ (goes_closure E s node)
   kind_goes (e.Paren a) node = record { form = goes_inside _ a.1.form; run = a.1.run }
@@ -169,27 +174,27 @@ module _ (E : Type 0) (s : Setting E) where
   kind_case : (l : ExprKind-F ExprKind Arm Bind Expr FieldExpr) (y : ExprKind-F KindPart ArmPart BindPart ExprPart FieldPart) → layer y ≡ l → (node : ℕ) → ExprGoes E (kind_meaning (roll-ExprKind l) node)
   kind_case l y same node =
       subst (λ m. ExprGoes E (m node)) (sym (fold-roll-ExprKind (ℕ → ExprMeaning E) (ArmMeaning E) (BindMeaning E) (ExprMeaning E) (ℕ × Meaning E) (step E s) (arm_step E s) (bind_step E s) (expr_step E s) (field_step E s) l))
-        (subst (λ l. ExprGoes E (step E s (meant l) node)) same (kind_goes y node))
+      (subst (λ l. ExprGoes E (step E s (meant l) node)) same (kind_goes y node))
 
   arm_case : (l : Arm-F ExprKind Arm Bind Expr FieldExpr) (y : Arm-F KindPart ArmPart BindPart ExprPart FieldPart) → arm_layer y ≡ l → ArmGoes E (arm_meaning E s (roll-Arm l))
   arm_case l y same =
       subst (ArmGoes E) (sym (fold-roll-Arm (ℕ → ExprMeaning E) (ArmMeaning E) (BindMeaning E) (ExprMeaning E) (ℕ × Meaning E) (step E s) (arm_step E s) (bind_step E s) (expr_step E s) (field_step E s) l))
-        (subst (λ l. ArmGoes E (arm_step E s (meant_arm l))) same (arm_goes y.pat y.guard y.body))
+      (subst (λ l. ArmGoes E (arm_step E s (meant_arm l))) same (arm_goes y.pat y.guard y.body))
 
   bind_case : (l : Bind-F ExprKind Arm Bind Expr FieldExpr) (y : Bind-F KindPart ArmPart BindPart ExprPart FieldPart) → bind_layer y ≡ l → Goes E (bind_meaning E s (roll-Bind l)).value
   bind_case l y same =
       subst (λ b. Goes E b.value) (sym (fold-roll-Bind (ℕ → ExprMeaning E) (ArmMeaning E) (BindMeaning E) (ExprMeaning E) (ℕ × Meaning E) (step E s) (arm_step E s) (bind_step E s) (expr_step E s) (field_step E s) l))
-        (subst (λ l. Goes E (bind_step E s (meant_bind l)).value) same (bind_goes y.pat y.params y.result y.body))
+      (subst (λ l. Goes E (bind_step E s (meant_bind l)).value) same (bind_goes y.pat y.params y.result y.body))
 
   expr_case : (l : Expr-F ExprKind Arm Bind Expr FieldExpr) (y : Expr-F KindPart ArmPart BindPart ExprPart FieldPart) → expr_layer y ≡ l → ExprGoes E (expr_meaning E s (roll-Expr l))
   expr_case l y same =
       subst (ExprGoes E) (sym (fold-roll-Expr (ℕ → ExprMeaning E) (ArmMeaning E) (BindMeaning E) (ExprMeaning E) (ℕ × Meaning E) (step E s) (arm_step E s) (bind_step E s) (expr_step E s) (field_step E s) l))
-        (subst (λ l. ExprGoes E (expr_step E s (meant_expr l))) same (expr_goes y))
+      (subst (λ l. ExprGoes E (expr_step E s (meant_expr l))) same (expr_goes y))
 
   field_case : (l : FieldExpr-F ExprKind Arm Bind Expr FieldExpr) (y : FieldExpr-F KindPart ArmPart BindPart ExprPart FieldPart) → field_layer y ≡ l → Goes E (field_meaning (roll-FieldExpr l)).1
   field_case l y same =
       subst (λ f. Goes E f.1) (sym (fold-roll-FieldExpr (ℕ → ExprMeaning E) (ArmMeaning E) (BindMeaning E) (ExprMeaning E) (ℕ × Meaning E) (step E s) (arm_step E s) (bind_step E s) (expr_step E s) (field_step E s) l))
-        (subst (λ l. Goes E (field_step E s (meant_field l)).1) same y.expr.1.run)
+      (subst (λ l. Goes E (field_step E s (meant_field l)).1) same y.expr.1.run)
 
   -- every expression, arm and binding is steady
   pub expr_is_steady : (x : Expr) → ExprGoes E (expr_meaning E s x)

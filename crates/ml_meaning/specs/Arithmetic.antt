@@ -1,5 +1,5 @@
 -- Whole numbers of 63 bits with sign, as OCaml has them: they wrap modulo 2 ^ 63.
-use Rattle.std.specs.Prelude.{ℕ, ◌+◌, ◌-◌, ◌/◌, ◌^◌, Bool, true, false, ◌&&◌, ℤ, pos, negsuc, ◌+ℤ◌, ◌-ℤ◌, ◌*ℤ◌, neg_ℤ, int_lt, int_le, int_div, int_rem, unsigned_abs, bit_and, bit_or, bit_xor, nat_lt, nat_le, suc, if◌then◌else◌, Option, Some, None, not}
+use Rattle.std.specs.Prelude.{ℕ, ◌-◌, ◌/◌, ◌^◌, ℤ, pos, negsuc, ◌+ℤ◌, ◌-ℤ◌, ◌*ℤ◌, int_lt, int_div, int_rem, unsigned_abs, bit_and, bit_or, bit_xor, nat_lt, nat_le, suc, if◌then◌else◌, Option, Some, None}
 use Rattle.std.specs.Int.{int_rem_euclid, int_div_euclid}
 use Rattle.std.specs.Ordering.{int_eq}
 use Rattle.ml_tree.specs.declared.expr.BinOp.{BinOp}

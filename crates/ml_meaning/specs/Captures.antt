@@ -1,7 +1,7 @@
 -- The captures of a function: the local names that it uses and that are bound outside it, each once,
 -- in the order of first use. A recursive function does not capture itself. Names go by the number of
 -- their binder.
-use Rattle.std.specs.Prelude.{ℕ, Bool, List, [], ◌∷◌, ◌++◌, Option, Some, None, map, ◌==◌, if◌then◌else◌}
+use Rattle.std.specs.Prelude.{ℕ, List, [], ◌∷◌, ◌++◌, Option, Some, None, ◌==◌, if◌then◌else◌}
 use Rattle.std.specs.List.{list_any}
 use Rattle.ml_tree.specs.declared.reference.Ref.{Ref}
 use Rattle.ml_tree.specs.declared.reference.Ref.TheVariants as ref

@@ -1,6 +1,6 @@
 -- The comparisons, at numbers, characters, constants and texts. Texts are compared byte by byte, and
 -- a text is below those that it begins.
-use Rattle.std.specs.Prelude.{ℕ, Bool, not, List, [], ◌∷◌, Option, Some, None}
+use Rattle.std.specs.Prelude.{ℕ, Bool, List, [], ◌∷◌, Option, Some, None}
 use Rattle.std.specs.declared.cmp.Ordering.{Ordering}
 use Rattle.std.specs.declared.cmp.Ordering.TheVariants.{Less, Equal, Greater}
 use Rattle.std.specs.Ordering.{nat_cmp, int_cmp, ordering_then, is_eq, is_ne, is_lt, is_gt, is_le, is_ge}

@@ -1,26 +1,21 @@
 -- What each expression means: a run, given how calls run, whether it stands in tail position, and
 -- what the local names stand for.
-use Rattle.std.specs.Prelude.{ℕ, zero, suc, ◌+◌, Bool, true, false, List, [], ◌∷◌, ◌++◌, length, map, take, drop, Option, Some, None, slice_get, nat_eq, nat_le, ◌==◌, if◌then◌else◌}
-use Rattle.std.specs.List.{find, zip, range_with_len}
+use Rattle.std.specs.Prelude.{ℕ, zero, suc, ◌+◌, List, [], ◌∷◌, ◌++◌, length, map, take, drop, Option, Some, None, nat_eq, nat_le, if◌then◌else◌}
+use Rattle.std.specs.List.{range_with_len}
 use Rattle.ml_tree.specs.declared.reference.Ref.{Ref}
 use Rattle.ml_tree.specs.declared.reference.Ref.TheVariants as ref
 use Rattle.ml_tree.specs.declared.reference.Op.{Op}
 use Rattle.ml_tree.specs.declared.reference.Op.TheVariants as operation
 use Rattle.ml_tree.specs.declared.pattern.ConName.{ConName}
-use Rattle.ml_tree.specs.declared.pattern.ConName.TheVariants as con
-use Rattle.ml_tree.specs.declared.pattern.Pat.{Pat}
 use Rattle.ml_tree.specs.declared.expr.BinOp.{BinOp}
 use Rattle.ml_tree.specs.declared.expr.BinOp.TheVariants as op
-use Rattle.ml_tree.specs.declared.expr.Expr.{Expr, fold-Expr}
-use Rattle.ml_tree.specs.declared.expr.Arm.{Arm, fold-Arm}
-use Rattle.ml_tree.specs.declared.expr.Bind.{Bind, fold-Bind}
 use Rattle.ml_tree.specs.declared.expr.ExprKind.TheOpen as e
 use Rattle.ml_tree.specs.declared.expr.ExprKind.TheOpen.{ExprKind-F, Arm-F, Bind-F, Expr-F, FieldExpr-F}
 use Rattle.ml_meaning.specs.declared.event.Event.{Event}
 use Rattle.ml_meaning.specs.declared.event.Event.TheVariants as event
-use Rattle.ml_meaning.specs.Values.{Value, Number, Character, Bytes, Constant, Block, Function, Code, Source, Primitive, Values, no_values, packed, listed, empty_list, cell, unit_value, true_value, false_value}
+use Rattle.ml_meaning.specs.Values.{Value, Number, Character, Bytes, Constant, Block, Function, Code, Source, Primitive, no_values, packed, listed, empty_list, cell, unit_value, true_value, false_value}
 use Rattle.ml_meaning.specs.Names.{lookup, constructor_place, field_place}
-use Rattle.ml_meaning.specs.Patterns.{Env, Fits, fits, all_fit, found}
+use Rattle.ml_meaning.specs.Patterns.{Env, Fits, all_fit, found}
 use Rattle.ml_meaning.specs.Functions.{FunctionCode, Body, Single, Cases}
 use Rattle.ml_meaning.specs.Runs.{Run, Done, Stop, Stuck, after, ◌>>=◌}
 use Rattle.ml_meaning.specs.Tellings.{Setting, Mode, Inner, Last, Call, Meaning, NoMatch, or_stuck, branch, fail, made, closes, leaves, finish, named}
@@ -197,8 +192,9 @@ module _ (E : Type 0) (s : Setting E) where
   -- an operation's name on at least as many arguments as it has is the operation, and no call
   abbrev pub application : ℕ → ExprMeaning E → List (Meaning E) → Meaning E
   application node f es = elim (f.form) [
-      Named o ↦ (if nat_le (operation_arity o) (length es) then operation_applied node o es else function_applied node f.run es)
-    | _ ↦ function_applied node f.run es ]
+    | Named o ↦ (if nat_le (operation_arity o) (length es) then operation_applied node o es else function_applied node f.run es)
+    | _ ↦ function_applied node f.run es
+  ]
 
   -- ---- matching
 
@@ -230,7 +226,8 @@ module _ (E : Type 0) (s : Setting E) where
   abbrev pub building : ℕ → Option ℕ → List (Meaning E) → ExprMeaning E
   building node place ms = record {
     form = Builds place ms;
-    run = λ c mode env. values ms c env >>= λ vs. block node place vs >>= finish E s mode }
+    run = λ c mode env. values ms c env >>= λ vs. block node place vs >>= finish E s mode;
+  }
 
   abbrev pub constructed : ℕ → ConName → Option (ExprMeaning E) → ExprMeaning E
   constructed node name None = plain (λ c mode env. constant mode (constructor_place s.names name node))
@@ -268,15 +265,18 @@ module _ (E : Type 0) (s : Setting E) where
   step (e.Text lit) node = plain (λ c mode env. finish E s mode (Bytes lit.bytes))
   step (e.Name name) node = record {
     form = operation_named (s.names node);
-    run = λ c mode env. or_stuck (named E s (s.names node) env) >>= finish E s mode }
+    run = λ c mode env. or_stuck (named E s (s.names node) env) >>= finish E s mode;
+  }
   step (e.Path name part) node = record {
     form = operation_named (s.names node);
-    run = λ c mode env. or_stuck (named E s (s.names node) env) >>= finish E s mode }
+    run = λ c mode env. or_stuck (named E s (s.names node) env) >>= finish E s mode;
+  }
   step (e.Con name arg) node = constructed node name arg
   step (e.Cons a b) node = building node (Some 1) (a.run ∷ (b.run ∷ []))
   step (e.Tuple es) node = record {
     form = Several (map (λ a. a.run) es);
-    run = (building node (Some 0) (map (λ a. a.run) es)).run }
+    run = (building node (Some 0) (map (λ a. a.run) es)).run;
+  }
   step (e.List es) node = plain (λ c mode env. chain node (map (λ a. a.run) es) c env >>= finish E s mode)
   step (e.Fields fs) node = plain (λ c mode env.
       values (map (λ f. f.1) fs) c env >>= λ vs. arranged fs vs >>= λ us. block node (Some 0) us >>= finish E s mode)

@@ -6,19 +6,18 @@ use Rattle.ml_tree.specs.declared.pattern.Pat.{Pat}
 use Rattle.ml_tree.specs.declared.pattern.Param.{Param}
 use Rattle.ml_tree.specs.declared.pattern.PatKind.{out-PatKind}
 use Rattle.ml_tree.specs.declared.pattern.PatKind.TheOpen as p
-use Rattle.ml_tree.specs.declared.expr.Expr.{Expr, para-Expr}
+use Rattle.ml_tree.specs.declared.expr.Expr.{Expr}
 use Rattle.ml_tree.specs.declared.expr.ExprKind.{ExprKind}
 use Rattle.ml_tree.specs.declared.expr.FieldExpr.{FieldExpr}
 use Rattle.ml_tree.specs.declared.expr.Arm.{Arm}
 use Rattle.ml_tree.specs.declared.expr.Bind.{Bind, para-Bind}
 use Rattle.ml_tree.specs.declared.expr.ExprKind.TheOpen as e
 use Rattle.ml_tree.specs.declared.expr.ExprKind.TheOpen.{ExprKind-F, Arm-F, Bind-F, Expr-F, FieldExpr-F}
-use Rattle.ml_tree.specs.declared.program.Program.{Program}
 use Rattle.ml_tree.specs.declared.program.Item.{Item}
 use Rattle.ml_tree.specs.declared.program.ItemKind.{ItemKind}
 use Rattle.ml_tree.specs.declared.program.ItemKind.TheVariants as item
 use Rattle.ml_meaning.specs.Names.{References}
-use Rattle.ml_meaning.specs.Captures.{bound_by_params, binders, binders_of_arm, uses, uses_of_arm, free, together, or_none}
+use Rattle.ml_meaning.specs.Captures.{bound_by_params, binders, binders_of_arm, uses, uses_of_arm, free, together}
 use Rattle.ml_meaning.specs.Weights.{patterns_of_params, expressions_of, expressions_of_arm, weight}
 
 -- one body behind parameters, or the arms of `function`, which match the one argument
@@ -53,7 +52,8 @@ module _ (names : References) where
     captures = free (at_most_one own ++ (bound_by_params params ++ binders body)) (uses names body);
     params = params;
     body = Single body;
-    weight = weight (patterns_of_params params + expressions_of body) }
+    weight = weight (patterns_of_params params + expressions_of body);
+  }
 
   abbrev pub with_arms : Option ℕ → List Arm → FunctionCode
   with_arms own arms = record {
@@ -61,7 +61,8 @@ module _ (names : References) where
     captures = free (at_most_one own ++ together (map binders_of_arm arms)) (together (map (uses_of_arm names) arms));
     params = [];
     body = Cases arms;
-    weight = weight (sum (map expressions_of_arm arms)) }
+    weight = weight (sum (map expressions_of_arm arms));
+  }
 
   -- the functions below a part; `own` is the name that the recursive binding of the part binds
   abbrev pub Below : Type 0
@@ -105,8 +106,9 @@ module _ (names : References) where
 
   abbrev pub functions_bind : Bind-F (ExprKind × (ℕ → Below)) (Arm × Functions) (Bind × (Bool → Functions)) (Expr × Below) (FieldExpr × Functions) → Bool → Functions
   functions_bind b recursive = elim (b.params) [
-      [] ↦ b.body.1 (own_name recursive (bare_name b.pat))
-    | q ∷ qs ↦ (b.pat.id, with_params (own_name recursive (Some b.pat.id)) (q ∷ qs) b.body.0) ∷ b.body.1 None ]
+    | [] ↦ b.body.1 (own_name recursive (bare_name b.pat))
+    | q ∷ qs ↦ (b.pat.id, with_params (own_name recursive (Some b.pat.id)) (q ∷ qs) b.body.0) ∷ b.body.1 None
+  ]
 
   abbrev pub functions_expr : Expr-F (ExprKind × (ℕ → Below)) (Arm × Functions) (Bind × (Bool → Functions)) (Expr × Below) (FieldExpr × Functions) → Below
   functions_expr x = x.kind.1 x.id

@@ -1,7 +1,7 @@
 -- How the runs of a program at two numbers of fuel lie to one another.
-use Rattle.std.specs.Prelude.{◌≡◌, ℕ, List, ◌++◌}
+use Rattle.std.specs.Prelude.{◌≡◌, List, ◌++◌}
 use Rattle.ml_meaning.specs.declared.event.Ending.TheVariants as ending
-use Rattle.ml_meaning.specs.Runs.{Run, Done, Stop, Stopped, Ended, Stuck, trace}
+use Rattle.ml_meaning.specs.Runs.{Run, Done, Stop, Ended, Stuck, trace}
 
 -- the first list begins the second
 abbrev pub Begins : {A : Type 0} → List A → List A → Type 0

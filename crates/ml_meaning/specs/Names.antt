@@ -1,14 +1,9 @@
 -- What the nodes of a program name, and the constructors of its declarations.
-use Rattle.std.specs.Prelude.{ℕ, zero, suc, ◌-◌, Bool, true, false, List, [], ◌∷◌, ◌++◌, Option, Some, None, length, slice_get, ◌==◌, if◌then◌else◌, map}
+use Rattle.std.specs.Prelude.{ℕ, List, [], ◌∷◌, Option, Some, None, ◌==◌, if◌then◌else◌}
 use Rattle.ml_tree.specs.declared.reference.Ref.{Ref}
 use Rattle.ml_tree.specs.declared.reference.Ref.TheVariants as ref
 use Rattle.ml_tree.specs.declared.pattern.ConName.{ConName}
 use Rattle.ml_tree.specs.declared.pattern.ConName.TheVariants as con
-use Rattle.ml_tree.specs.declared.types.Decl.{Decl}
-use Rattle.ml_tree.specs.declared.types.DeclBody.{DeclBody}
-use Rattle.ml_tree.specs.declared.types.DeclBody.TheVariants as body
-use Rattle.ml_tree.specs.declared.program.Item.{Item}
-use Rattle.ml_tree.specs.declared.program.ItemKind.TheVariants as item
 
 -- the value that stands with this number, the first where it stands several times
 abbrev pub lookup : {A : Type 0} → ℕ → List (ℕ × A) → Option A

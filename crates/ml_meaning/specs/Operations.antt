@@ -8,11 +8,11 @@ use Rattle.ml_tree.specs.declared.reference.Op.TheVariants as op
 use Rattle.ml_tree.specs.declared.expr.BinOp.{BinOp}
 use Rattle.ml_tree.specs.declared.expr.BinOp.TheVariants as binary
 use Rattle.ml_meaning.specs.declared.event.Ending.TheVariants as ending
-use Rattle.ml_meaning.specs.Values.{Value, Number, Character, Bytes, Constant, unit_value, true_value, false_value}
+use Rattle.ml_meaning.specs.Values.{Value, Number, Character, Bytes, unit_value, true_value, false_value}
 use Rattle.ml_meaning.specs.Runs.{Run, Done, Stop, Ended, Stuck}
-use Rattle.ml_meaning.specs.Arithmetic.{arithmetic, wrapped}
+use Rattle.ml_meaning.specs.Arithmetic.{arithmetic}
 use Rattle.ml_meaning.specs.Comparing.{comparison, value_order}
-use Rattle.ml_meaning.specs.Tellings.{Setting, puts, fail, Failure, ByZero, Failed, Invalid, made_text}
+use Rattle.ml_meaning.specs.Tellings.{Setting, puts, fail, ByZero, Failed, Invalid, made_text}
 
 abbrev pub operation_arity : Op → ℕ
 operation_arity op.StringGet = 2

@@ -1,11 +1,11 @@
 -- When a value fits a pattern, and what the names of the pattern then stand for. Names go by the
 -- number of the pattern that binds them.
-use Rattle.std.specs.Prelude.{ℕ, zero, suc, Bool, true, false, ℤ, List, [], ◌∷◌, ◌++◌, Option, Some, None, slice_get, ◌==◌, if◌then◌else◌, map, length}
+use Rattle.std.specs.Prelude.{ℕ, zero, suc, Bool, true, false, ℤ, List, [], ◌∷◌, ◌++◌, Option, Some, None, slice_get, ◌==◌, if◌then◌else◌, map}
 use Rattle.std.specs.Ordering.{int_eq, is_eq}
 use Rattle.ml_tree.specs.declared.pattern.Pat.{Pat, fold-Pat}
 use Rattle.ml_tree.specs.declared.pattern.PatKind.TheOpen as p
 use Rattle.ml_tree.specs.declared.pattern.PatKind.TheOpen.{PatKind-F, FieldPat-F, Pat-F}
-use Rattle.ml_meaning.specs.Values.{Value, Number, Character, Bytes, Constant, Block, listed, empty_list}
+use Rattle.ml_meaning.specs.Values.{Value, Number, Character, Bytes, Constant, Block, listed}
 use Rattle.ml_meaning.specs.Comparing.{text_order}
 use Rattle.ml_meaning.specs.Arithmetic.{wrapped}
 use Rattle.ml_meaning.specs.Names.{References, constructor_place, field_place}

@@ -1,9 +1,8 @@
 -- What a program means at some fuel: its items in order, the calls that they make, and how it ends.
 -- The body of a call has one unit of fuel less than the call, and calls one after the other share
 -- theirs. A call without fuel ends the run before its entry is told.
-use Rattle.std.specs.Prelude.{ℕ, zero, suc, ◌+◌, ◌-◌, Bool, sum, List, [], ◌∷◌, ◌++◌, length, map, Option, Some, None, slice_get, nat_lt, ◌==◌, if◌then◌else◌}
-use Rattle.std.specs.List.{zip, flat_map}
-use Rattle.ml_tree.specs.declared.reference.Ref.{Ref}
+use Rattle.std.specs.Prelude.{ℕ, zero, suc, ◌-◌, sum, List, [], ◌∷◌, ◌++◌, length, map, Option, Some, None, slice_get, nat_lt, ◌==◌, if◌then◌else◌}
+use Rattle.std.specs.List.{flat_map}
 use Rattle.ml_tree.specs.declared.types.Decl.{Decl}
 use Rattle.ml_tree.specs.declared.types.ConDecl.{ConDecl}
 use Rattle.ml_tree.specs.declared.types.DeclBody.{DeclBody}
@@ -15,17 +14,17 @@ use Rattle.ml_tree.specs.declared.program.Item.{Item}
 use Rattle.ml_tree.specs.declared.program.ItemKind.{ItemKind}
 use Rattle.ml_tree.specs.declared.program.ItemKind.TheVariants as item
 use Rattle.ml_tree.specs.declared.scoped.Scoped.{Scoped}
-use Rattle.ml_tree.specs.declared.expr.ExprKind.TheOpen.{ExprKind-F, Arm-F, Bind-F, Expr-F, FieldExpr-F}
+use Rattle.ml_tree.specs.declared.expr.ExprKind.TheOpen.{Arm-F, Bind-F, Expr-F, FieldExpr-F}
 use Rattle.ml_meaning.specs.declared.event.Event.{Event}
 use Rattle.ml_meaning.specs.declared.event.Event.TheVariants as event
 use Rattle.ml_meaning.specs.declared.event.Ending.TheVariants as ending
 use Rattle.ml_meaning.specs.Values.{Value, Function, Code, Source, Primitive, no_values, packed}
 use Rattle.ml_meaning.specs.Names.{lookup}
 use Rattle.ml_meaning.specs.Patterns.{Env, fits, all_fit}
-use Rattle.ml_meaning.specs.Functions.{FunctionCode, Body, Single, Cases, Functions, functions_of}
+use Rattle.ml_meaning.specs.Functions.{FunctionCode, Body, Single, Cases, functions_of}
 use Rattle.ml_meaning.specs.Weights.{expressions_of_bind, weight}
 use Rattle.ml_meaning.specs.Runs.{Run, Done, Stop, Stopped, Ended, Stuck, after, ◌>>=◌}
-use Rattle.ml_meaning.specs.Tellings.{Setting, Mode, Inner, Last, Call, Meaning, NoMatch, or_stuck, fail, finish}
+use Rattle.ml_meaning.specs.Tellings.{Setting, Last, Call, Meaning, NoMatch, or_stuck, fail, finish}
 use Rattle.ml_meaning.specs.Operations.{operate}
 use Rattle.ml_meaning.specs.Evaluation.{ExprMeaning, ArmMeaning, BindMeaning, step, closure, values, matched, choose}
 
@@ -43,7 +42,8 @@ module _ (E : Type 0) (s : Setting E) where
   abbrev pub bind_step : Bind-F (ℕ → ExprMeaning E) (ArmMeaning E) (BindMeaning E) (ExprMeaning E) (ℕ × Meaning E) → BindMeaning E
   bind_step b = record {
     fits = fits s.names b.pat;
-    value = elim (b.params) [ [] ↦ b.body.run | q ∷ qs ↦ closure E s b.pat.id ] }
+    value = elim (b.params) [ [] ↦ b.body.run | q ∷ qs ↦ closure E s b.pat.id ];
+  }
 
   abbrev pub expr_step : Expr-F (ℕ → ExprMeaning E) (ArmMeaning E) (BindMeaning E) (ExprMeaning E) (ℕ × Meaning E) → ExprMeaning E
   expr_step x = let m = x.kind x.id in record { form = m.form; run = λ c mode env. after s.visit (m.run c mode env) }
@@ -160,7 +160,8 @@ module _ (E : Type 0) (told : Event → List E) (visit : List E) (program : Scop
     fields = field_total program.program.items;
     code = λ n. lookup n (functions_of (λ k. lookup k program.refs) program.program.items);
     top = λ n. lookup n tops;
-    append = first_binder (slice_get program.program.items 6) }
+    append = first_binder (slice_get program.program.items 6);
+  }
 
   abbrev pub items_run : ℕ → List Item → Env → Run E Env
   items_run n [] tops = Done [] tops

@@ -1,5 +1,5 @@
 -- A run: the events that were told, in order, with the value that it gave or how it stopped.
-use Rattle.std.specs.Prelude.{ℕ, List, ◌++◌}
+use Rattle.std.specs.Prelude.{List, ◌++◌}
 use Rattle.ml_meaning.specs.declared.event.Ending.{Ending}
 
 -- how a run stops: as programs end, or where no rule of the language applies
@@ -17,7 +17,6 @@ after es (Done fs a) = Done (es ++ fs) a
 after es (Stop fs end) = Stop (es ++ fs) end
 
 infixl 30 ◌>>=◌
-
 -- the first run, and then the one that its value gives
 abbrev pub ◌>>=◌ : {E A B : Type 0} → Run E A → (A → Run E B) → Run E B
 (Done es a) >>= f = after es (f a)

@@ -11,7 +11,7 @@ use Rattle.ml_meaning.specs.Values.{Value, Bytes, Constant, Function, Code, Prim
 use Rattle.ml_meaning.specs.Names.{References, lookup}
 use Rattle.ml_meaning.specs.Patterns.{Env}
 use Rattle.ml_meaning.specs.Functions.{FunctionCode}
-use Rattle.ml_meaning.specs.Runs.{Run, Done, Stop, Stopped, Ended, Stuck, after, ◌>>=◌}
+use Rattle.ml_meaning.specs.Runs.{Run, Done, Stop, Ended, Stuck}
 
 -- What is fixed while an item is evaluated. The kind `E` of what is told stays open: the trace tells
 -- each event as it is, and other readers of a run count what they need.

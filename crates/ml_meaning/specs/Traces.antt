@@ -1,6 +1,6 @@
 -- What is read off a trace: the bytes that it writes, the words that it makes, how high the local
 -- blocks and the calls stand at its end.
-use Rattle.std.specs.Prelude.{ℕ, ◌+◌, ◌-◌, Bool, true, false, List, [], ◌∷◌, Option, Some, None, if◌then◌else◌}
+use Rattle.std.specs.Prelude.{ℕ, ◌+◌, ◌-◌, Bool, false, List, [], ◌∷◌, Option, Some, None, if◌then◌else◌}
 use Rattle.ml_meaning.specs.declared.event.Event.{Event}
 use Rattle.ml_meaning.specs.declared.event.Event.TheVariants as event
 

@@ -1,10 +1,9 @@
 -- The weight of a function or an item: four words of the call stack for each expression and pattern
 -- of it, an inner function counting as one, and 64 words more.
-use Rattle.std.specs.Prelude.{ℕ, ◌+◌, ◌*◌, sum, map, List, [], ◌∷◌, Option, Some, None}
+use Rattle.std.specs.Prelude.{ℕ, ◌+◌, ◌*◌, sum, map, List, [], ◌∷◌}
 use Rattle.ml_tree.specs.declared.pattern.Pat.{Pat, fold-Pat}
 use Rattle.ml_tree.specs.declared.pattern.Param.{Param}
-use Rattle.ml_tree.specs.declared.pattern.PatKind.TheOpen as p
-use Rattle.ml_tree.specs.declared.pattern.PatKind.TheOpen.{PatKind-F, FieldPat-F, Pat-F}
+use Rattle.ml_tree.specs.declared.pattern.PatKind.TheOpen.{FieldPat-F, Pat-F}
 use Rattle.ml_tree.specs.declared.expr.Expr.{Expr, fold-Expr}
 use Rattle.ml_tree.specs.declared.expr.Arm.{Arm, fold-Arm}
 use Rattle.ml_tree.specs.declared.expr.Bind.{Bind, fold-Bind}
