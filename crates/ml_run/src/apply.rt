@@ -94,7 +94,7 @@ pub fn closure<'a>(
     let Some(function) = world.functions.at(node) else {
         return Err(NoMemory);
     };
-    let words = captured(world, function.captures.as_slice(), here.env)?;
+    let words = captured(world, function.captures, here.env)?;
     let size = function.captures.len() as u64;
     if size > 0 {
         made(told, node, size.saturating_add(2))?;
@@ -193,7 +193,7 @@ fn call<'a>(
 fn closed<'a>(
     world: World<'a>,
     node: u32,
-    function: &Function<'a>,
+    function: Function<'a>,
     captured: Words<'a>,
 ) -> Result<Env<'a>, NoMemory> {
     let mut env = Env::Nothing;
@@ -202,7 +202,7 @@ fn closed<'a>(
         env = bind(world.bump, own, word, env)?;
     }
     let mut rest = captured;
-    for name in function.captures.as_slice() {
+    for name in function.captures {
         let Words::And(pair) = rest else {
             return Err(NoMemory);
         };
@@ -217,7 +217,7 @@ fn body<'a>(
     world: World<'a>,
     told: &mut Vec<Event>,
     node: u32,
-    function: &Function<'a>,
+    function: Function<'a>,
     captured: Words<'a>,
     args: Words<'a>,
     fuel: u64,

@@ -3,14 +3,16 @@
 use crate::function::{Body, Function, Functions};
 use crate::gather::{self, Gathered};
 use crate::weight::{of_arms, of_expr, of_params, weight};
+use bumpalo::Bump;
 use ml_tree::{Arm, Bind, Expr, ExprKind, FieldExpr, Item, ItemKind, Param, Pat, PatKind, Scoped};
-use oxml_base::{Items, NoMemory};
+use oxml_base::NoMemory;
 use std::alloc::Global;
 
 /// The functions found so far, with a mark for each node number.
 #[derive(Drop)]
 struct Collector<'a> {
     alloc: Global,
+    bump: &'a Bump,
     scoped: &'a Scoped,
     marks: Vec<bool>,
     list: Vec<(u32, Function<'a>)>,
@@ -31,7 +33,7 @@ fn mark_all(marks: &mut [bool], names: &[u32], to: bool) {
 }
 
 /// The names that are not marked, each once.
-fn unmarked(alloc: Global, marks: &mut [bool], names: &[u32]) -> Result<Items<u32>, NoMemory> {
+fn unmarked(alloc: Global, marks: &mut [bool], names: &[u32]) -> Result<Vec<u32>, NoMemory> {
     let mut found = Vec::new(alloc);
     for name in names {
         if marks.get(*name as usize).copied() == Some(false) {
@@ -39,17 +41,18 @@ fn unmarked(alloc: Global, marks: &mut [bool], names: &[u32]) -> Result<Items<u3
             found.push(*name)?;
         }
     }
-    Ok(Items::from_vec(found))
+    Ok(found)
 }
 
 /// The captures of a function that is called `own`: the names that it uses and that are bound
 /// outside it, each once, in the order of first use.
-fn captures(
+fn captures<'a>(
     alloc: Global,
+    bump: &'a Bump,
     marks: &mut [bool],
     found: &Gathered,
     own: Option<u32>,
-) -> Result<Items<u32>, NoMemory> {
+) -> Result<&'a [u32], NoMemory> {
     if let Some(own) = own {
         mark(marks, own, true);
     }
@@ -60,7 +63,8 @@ fn captures(
     if let Some(own) = own {
         mark(marks, own, false);
     }
-    Ok(free)
+    let captures: &'a [u32] = bump.try_alloc_slice_copy(free.as_slice())?;
+    Ok(captures)
 }
 
 /// The name that a recursive binding binds.
@@ -89,7 +93,7 @@ impl<'a> Collector<'a> {
         let mut found = self.gathered();
         gather::params(params, &mut found)?;
         gather::expr(self.scoped, body, &mut found)?;
-        let captures = captures(self.alloc, self.marks.as_mut_slice(), &found, own)?;
+        let captures = captures(self.alloc, self.bump, self.marks.as_mut_slice(), &found, own)?;
         let parts = of_params(params).saturating_add(of_expr(body));
         self.list.push((
             node,
@@ -107,7 +111,7 @@ impl<'a> Collector<'a> {
     fn with_arms(&mut self, node: u32, own: Option<u32>, arms: &'a [Arm]) -> Result<(), NoMemory> {
         let mut found = self.gathered();
         gather::arms(self.scoped, arms, &mut found)?;
-        let captures = captures(self.alloc, self.marks.as_mut_slice(), &found, own)?;
+        let captures = captures(self.alloc, self.bump, self.marks.as_mut_slice(), &found, own)?;
         self.list.push((
             node,
             Function {
@@ -270,7 +274,7 @@ fn places(
     alloc: Global,
     nodes: usize,
     list: &[(u32, Function)],
-) -> Result<Items<Option<usize>>, NoMemory> {
+) -> Result<Vec<Option<usize>>, NoMemory> {
     let mut places = filled(alloc, nodes, None)?;
     for (place, entry) in list.iter().enumerate().rev() {
         match places.get_mut(entry.0 as usize) {
@@ -278,16 +282,20 @@ fn places(
             None => {}
         }
     }
-    Ok(Items::from_vec(places))
+    Ok(places)
 }
 
-/// The functions of a program.
-pub fn functions<'a>(alloc: Global, s: &'a Scoped) -> Result<Functions<'a>, NoMemory> {
-    let nodes = s.program().nodes as usize;
+/// The functions of a program in the order of the source, each with its node.
+fn listed<'a>(
+    alloc: Global,
+    bump: &'a Bump,
+    s: &'a Scoped,
+) -> Result<Vec<(u32, Function<'a>)>, NoMemory> {
     let mut collector = Collector {
         alloc,
+        bump,
         scoped: s,
-        marks: filled(alloc, nodes, false)?,
+        marks: filled(alloc, s.program().nodes as usize, false)?,
         list: Vec::new(alloc),
     };
     for item in s.program().items.as_slice() {
@@ -295,13 +303,23 @@ pub fn functions<'a>(alloc: Global, s: &'a Scoped) -> Result<Functions<'a>, NoMe
     }
     let Collector {
         alloc: _,
+        bump: _,
         scoped: _,
         marks: _,
         list,
     } = collector;
-    let places = places(alloc, nodes, list.as_slice())?;
-    Ok(Functions {
-        list: Items::from_vec(list),
-        places,
-    })
+    Ok(list)
+}
+
+/// The functions of a program, their lists in the arena.
+pub fn functions<'a>(
+    alloc: Global,
+    bump: &'a Bump,
+    s: &'a Scoped,
+) -> Result<Functions<'a>, NoMemory> {
+    let list = listed(alloc, bump, s)?;
+    let places = places(alloc, s.program().nodes as usize, list.as_slice())?;
+    let list: &'a [(u32, Function<'a>)] = bump.try_alloc_slice_copy(list.as_slice())?;
+    let places: &'a [Option<usize>] = bump.try_alloc_slice_copy(places.as_slice())?;
+    Ok(Functions { list, places })
 }

@@ -1,7 +1,6 @@
 //! The functions of a program, by the numbers of their nodes.
 
 use ml_tree::{Arm, Expr, Param};
-use oxml_base::Items;
 
 /// One body behind parameters, or the arms of `function`, which match the one argument.
 #[derive(Clone, Copy)]
@@ -11,11 +10,11 @@ pub enum Body<'a> {
 }
 
 /// A function of the program.
-#[derive(Drop)]
+#[derive(Clone, Copy)]
 pub struct Function<'a> {
     /// Its own name, where it is recursive.
     pub own: Option<u32>,
-    pub captures: Items<u32>,
+    pub captures: &'a [u32],
     pub params: &'a [Param],
     pub body: Body<'a>,
     /// The words of the call stack that a call weighs.
@@ -24,7 +23,7 @@ pub struct Function<'a> {
 
 impl<'a> Function<'a> {
     /// How many arguments it takes.
-    pub fn arity(&self) -> usize {
+    pub fn arity(self) -> usize {
         match self.body {
             Body::Single(_) => self.params.len(),
             Body::Cases(_) => 1,
@@ -34,18 +33,18 @@ impl<'a> Function<'a> {
 
 /// The functions in the order of the source, and for each node the place of its function in that
 /// list.
-#[derive(Drop)]
+#[derive(Clone, Copy)]
 pub struct Functions<'a> {
-    pub list: Items<(u32, Function<'a>)>,
-    pub places: Items<Option<usize>>,
+    pub list: &'a [(u32, Function<'a>)],
+    pub places: &'a [Option<usize>],
 }
 
 impl<'a> Functions<'a> {
     /// The function of this node.
-    pub fn at(&self, node: u32) -> Option<&Function<'a>> {
+    pub fn at(self, node: u32) -> Option<Function<'a>> {
         match self.places.get(node as usize) {
             Some(Some(place)) => match self.list.get(*place) {
-                Some(entry) => Some(&entry.1),
+                Some(entry) => Some(entry.1),
                 None => None,
             },
             _ => None,

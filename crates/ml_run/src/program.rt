@@ -3,7 +3,6 @@
 use crate::apply::closure;
 use crate::collect::{filled, functions};
 use crate::frame::{Frame, Here, Next, Step};
-use crate::function::Functions;
 use crate::pattern::fit_binds;
 use crate::resume::resume;
 use crate::told::{Failure, Mode, fail};
@@ -221,25 +220,19 @@ fn run_items<'a>(
     Ok(Ending::Exit(0))
 }
 
-/// Evaluates a program with its tables at hand.
-fn run_with<'a>(
-    alloc: Global,
-    bump: &'a Bump,
-    s: &'a Scoped,
-    functions: &'a Functions<'a>,
-    decls: &'a [&'a Decl],
-    fuel: u64,
-    out: &mut Vec<Event>,
-) -> Result<Ending, NoMemory> {
-    let world = World {
+/// What stays as it is while a program is evaluated, its tables in the arena.
+fn world_of<'a>(alloc: Global, bump: &'a Bump, s: &'a Scoped) -> Result<World<'a>, NoMemory> {
+    let functions = functions(alloc, bump, s)?;
+    let decls = declarations(alloc, s.program().items.as_slice())?;
+    let decls: &'a [&'a Decl] = bump.try_alloc_slice_copy(decls.as_slice())?;
+    Ok(World {
         alloc,
         bump,
         scoped: s,
         functions,
         decls,
         append: append_binder(s.program()),
-    };
-    run_items(world, fuel, out)
+    })
 }
 
 /// Evaluates a program with so much fuel, appends the events of its trace and answers how it ends.
@@ -254,7 +247,17 @@ pub fn run(
     out: &mut Vec<Event>,
 ) -> Result<Ending, NoMemory> {
     let bump = Bump::new(alloc);
-    let functions = functions(alloc, s)?;
-    let decls = declarations(alloc, s.program().items.as_slice())?;
-    run_with(alloc, &bump, s, &functions, decls.as_slice(), fuel, out)
+    run_in(alloc, &bump, s, fuel, out)
+}
+
+/// Evaluates a program, its values in the arena.
+fn run_in<'a>(
+    alloc: Global,
+    bump: &'a Bump,
+    s: &'a Scoped,
+    fuel: u64,
+    out: &mut Vec<Event>,
+) -> Result<Ending, NoMemory> {
+    let world = world_of(alloc, bump, s)?;
+    run_items(world, fuel, out)
 }

@@ -1,6 +1,6 @@
 //! What stays as it is while a program is evaluated.
 
-use crate::function::{Function, Functions};
+use crate::function::Functions;
 use crate::value::{Code, Env, Word, Words};
 use bumpalo::Bump;
 use ml_tree::{ConName, Decl, DeclBody, Op, Ref, Scoped};
@@ -12,7 +12,7 @@ pub struct World<'a> {
     pub alloc: Global,
     pub bump: &'a Bump,
     pub scoped: &'a Scoped,
-    pub functions: &'a Functions<'a>,
+    pub functions: Functions<'a>,
     /// The written declarations in the order of the source.
     pub decls: &'a [&'a Decl],
     /// The binder of the function that `@` applies.
