@@ -9,10 +9,10 @@ use crate::told::{Failure, Mode, fail};
 use crate::value::{Env, Word, Words, and};
 use crate::visit::visit;
 use crate::weight::{of_binds, weight};
-use crate::world::World;
+use crate::world::{World, declared};
 use bumpalo::Bump;
 use ml_meaning::{Ending, Event};
-use ml_tree::{Bind, Decl, Item, ItemKind, Program, Scoped};
+use ml_tree::{Bind, Item, ItemKind, Program, Scoped};
 use oxml_base::NoMemory;
 use std::alloc::Global;
 
@@ -165,17 +165,12 @@ fn item<'a>(
     Ok(None)
 }
 
-/// The written declarations in the order of the source.
-fn declarations<'a>(alloc: Global, items: &'a [Item]) -> Result<Vec<&'a Decl>, NoMemory> {
+/// For each written declaration, in the order of the source, its item and its place there.
+fn declarations(alloc: Global, items: &[Item]) -> Result<Vec<(usize, usize)>, NoMemory> {
     let mut list = Vec::new(alloc);
-    for item in items {
-        match &item.kind {
-            ItemKind::Types(decls) => {
-                for decl in decls.as_slice() {
-                    list.push(decl)?;
-                }
-            }
-            ItemKind::Let { .. } => {}
+    for (at, item) in items.iter().enumerate() {
+        for place in 0..declared(&item.kind).len() {
+            list.push((at, place))?;
         }
     }
     Ok(list)
@@ -224,7 +219,7 @@ fn run_items<'a>(
 fn world_of<'a>(alloc: Global, bump: &'a Bump, s: &'a Scoped) -> Result<World<'a>, NoMemory> {
     let functions = functions(alloc, bump, s)?;
     let decls = declarations(alloc, s.program().items.as_slice())?;
-    let decls: &'a [&'a Decl] = bump.try_alloc_slice_copy(decls.as_slice())?;
+    let decls: &'a [(usize, usize)] = bump.try_alloc_slice_copy(decls.as_slice())?;
     Ok(World {
         alloc,
         bump,

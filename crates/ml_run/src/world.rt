@@ -3,7 +3,7 @@
 use crate::function::Functions;
 use crate::value::{Code, Env, Word, Words};
 use bumpalo::Bump;
-use ml_tree::{ConName, Decl, DeclBody, Op, Ref, Scoped};
+use ml_tree::{ConName, Decl, DeclBody, ItemKind, Op, Ref, Scoped};
 use std::alloc::Global;
 
 /// The program with its tables, and the arena in which values are made.
@@ -13,8 +13,8 @@ pub struct World<'a> {
     pub bump: &'a Bump,
     pub scoped: &'a Scoped,
     pub functions: Functions<'a>,
-    /// The written declarations in the order of the source.
-    pub decls: &'a [&'a Decl],
+    /// For each written declaration, in the order of the source, its item and its place there.
+    pub decls: &'a [(usize, usize)],
     /// The binder of the function that `@` applies.
     pub append: u32,
 }
@@ -60,14 +60,11 @@ pub fn operation(scoped: &Scoped, node: u32) -> Option<Op> {
     }
 }
 
-/// How many fields a constructor has, by its declaration and place.
-fn field_total(decls: &[&Decl], decl: u32, place: u32) -> usize {
-    if decl < WRITTEN {
-        return predefined_fields(decl, place);
-    }
-    match decls.get((decl - WRITTEN) as usize) {
-        Some(decl) => written_fields(&decl.body, place),
-        None => 0,
+/// The declarations of an item.
+pub fn declared(kind: &ItemKind) -> &[Decl] {
+    match kind {
+        ItemKind::Types(decls) => decls.as_slice(),
+        ItemKind::Let { .. } => &[],
     }
 }
 
@@ -95,8 +92,29 @@ impl<'a> World<'a> {
     /// How many fields the constructor has that a node names.
     pub fn field_count(&self, node: u32) -> usize {
         match self.scoped.target(node) {
-            Some(Ref::Con(decl, place)) => field_total(self.decls, decl, place),
+            Some(Ref::Con(decl, place)) => self.field_total(decl, place),
             _ => 1,
+        }
+    }
+
+    /// How many fields a constructor has, by its declaration and place.
+    fn field_total(&self, decl: u32, place: u32) -> usize {
+        if decl < WRITTEN {
+            return predefined_fields(decl, place);
+        }
+        match self.decls.get((decl - WRITTEN) as usize) {
+            Some(found) => self.written_total(found.0, found.1, place),
+            None => 0,
+        }
+    }
+
+    fn written_total(&self, item: usize, at: usize, place: u32) -> usize {
+        match self.scoped.program().items.get(item) {
+            Some(item) => match declared(&item.kind).get(at) {
+                Some(decl) => written_fields(&decl.body, place),
+                None => 0,
+            },
+            None => 0,
         }
     }
 
