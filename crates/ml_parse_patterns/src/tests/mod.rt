@@ -75,29 +75,20 @@ fn put_bytes(out: &mut String, bytes: &[u8]) -> Result<(), AllocError> {
 }
 
 #[cycle(show)]
-fn put_two(
-    out: &mut String,
-    name: &str,
-    span: Span,
-    one: &Pat,
-    other: &Pat,
-) -> Result<(), AllocError> {
-    put_head(out, name, span)?;
-    out.push_str("(")?;
-    put_pat(out, one)?;
-    out.push_str(", ")?;
-    put_pat(out, other)?;
-    out.push_str(")")
+fn put_part(out: &mut String, before: &str, pat: &Pat) -> Result<(), AllocError> {
+    out.push_str(before)?;
+    put_pat(out, pat)
 }
 
 #[cycle(show)]
 fn put_list(out: &mut String, name: &str, span: Span, list: &[Pat]) -> Result<(), AllocError> {
     put_head(out, name, span)?;
-    let mut before = "(";
-    for pat in list {
-        out.push_str(before)?;
+    out.push_str("(")?;
+    for (i, pat) in list.iter().enumerate() {
+        if i > 0 {
+            out.push_str(" ")?;
+        }
         put_pat(out, pat)?;
-        before = " ";
     }
     out.push_str(")")
 }
@@ -110,13 +101,13 @@ fn put_fields(
     more: bool,
 ) -> Result<(), AllocError> {
     put_head(out, "record", span)?;
-    let mut before = "(";
-    for field in list {
-        out.push_str(before)?;
+    out.push_str("(")?;
+    for (i, field) in list.iter().enumerate() {
+        if i > 0 {
+            out.push_str("; ")?;
+        }
         put_span(out, field.name)?;
-        out.push_str(" ")?;
-        put_pat(out, &field.pat)?;
-        before = "; ";
+        put_part(out, " ", &field.pat)?;
     }
     if more {
         out.push_str("; _")?;
@@ -167,8 +158,18 @@ fn put_pat(out: &mut String, pat: &Pat) -> Result<(), AllocError> {
                 None => Ok(()),
             }
         }
-        PatKind::Cons(one, other) => put_two(out, "cons", span, one.get(), other.get()),
-        PatKind::Or(one, other) => put_two(out, "or", span, one.get(), other.get()),
+        PatKind::Cons(one, other) => {
+            put_head(out, "cons", span)?;
+            put_part(out, "(", one.get())?;
+            put_part(out, ", ", other.get())?;
+            out.push_str(")")
+        }
+        PatKind::Or(one, other) => {
+            put_head(out, "or", span)?;
+            put_part(out, "(", one.get())?;
+            put_part(out, ", ", other.get())?;
+            out.push_str(")")
+        }
         PatKind::Tuple(list) => put_list(out, "tuple", span, list.as_slice()),
         PatKind::List(list) => put_list(out, "list", span, list.as_slice()),
         PatKind::Fields { list, rest } => put_fields(out, span, list.as_slice(), *rest),
