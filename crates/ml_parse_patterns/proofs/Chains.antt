@@ -1,5 +1,5 @@
 -- Alternatives and names that are joined one by one.
-use Rattle.std.proofs.Common.{◌≡◌, ◌≢◌, ℕ, ◌+◌, ◌-◌, ◌≤◌, ◌<◌, max, List, [], ◌∷◌, drop, length, refl, sym, ap, ◌∙◌, subst, arith}
+use Rattle.std.proofs.Common.{◌≡◌, ◌≢◌, ℕ, ◌+◌, ◌≤◌, ◌<◌, max, List, [], ◌∷◌, drop, length, sym, ap, ◌∙◌, subst, arith}
 use Rattle.ml_lexer.specs.declared.token.Token.{Token}
 use Rattle.ml_tree.specs.declared.pattern.Pat.{Pat}
 use Rattle.ml_tree.specs.declared.pattern.PatKind.TheVariants as Kind
@@ -14,7 +14,7 @@ use Rattle.ml_parse_patterns.specs.Readings.{IsNode, IsFound, NoTree, HasName, H
 use Rattle.ml_parse_patterns.proofs.Depths.{others_deeper, names_deeper}
 use Rattle.ml_parse_types.proofs.Shorter.{length-drop}
 use Rattle.ml_parse_patterns.proofs.Shorter.{shorter}
-use Rattle.ml_parse_patterns.proofs.Unique.{Same, same, moved}
+use Rattle.ml_parse_patterns.proofs.Unique.{same, moved}
 
 -- one name more
 names_full : {start us r : List Token} {n : ℕ} {p q : Pat} {d e : ℕ} → front us ≡ Front.As → n ≤ d → ReadsNames start p d us q e r → n < e

@@ -1,17 +1,14 @@
 -- How deep readings are.
-use Rattle.std.proofs.Common.{◌≡◌, ◌≢◌, ℕ, ◌+◌, ◌≤◌, ◌<◌, max, Bool, List, [], ◌∷◌, drop, refl, sym, ap, subst, arith}
+use Rattle.std.proofs.Common.{ℕ, ◌≤◌, List, arith}
 use Rattle.ml_lexer.specs.declared.token.Token.{Token}
 use Rattle.ml_tree.specs.declared.pattern.Pat.{Pat}
 use Rattle.ml_tree.specs.declared.pattern.FieldPat.{FieldPat}
 use Rattle.ml_parse_patterns.specs.declared.looks.Lead.{Lead}
-use Rattle.ml_parse_patterns.specs.declared.looks.Lead.TheVariants.{Whole, Name, Quoted}
-use Rattle.ml_parse_patterns.specs.declared.looks.Leaf.{Leaf}
 use Rattle.ml_parse_patterns.specs.declared.looks.Level.{Level}
-use Rattle.ml_parse_patterns.specs.declared.looks.Level.TheVariants.{Simple, Operand, Cons, Tuple, Or, Pattern}
 use Rattle.ml_parse_patterns.specs.declared.looks.Listing.{Listing}
 use Rattle.ml_parse_patterns.specs.declared.looks.ParamLead.{ParamLead}
 use Rattle.ml_tree.specs.declared.pattern.Param.{Param}
-use Rattle.ml_parse_patterns.specs.Patterns.{ReadsNames, no_name, one_name, ReadsSimple, leaf, name, quoted, paren, typed, bracket, brace, Reads, simple, bare, applied, no_cons, cons, no_tuple, tuple, either, whole, ReadsOthers, no_other, one_other, ReadsList, last_one, one_more, ReadsField, pun, field, ReadsFields, last_field, next_field, ReadsParamBy, short, parens, annotated, ReadsParams, last_param, next_param}
+use Rattle.ml_parse_patterns.specs.Patterns.{ReadsNames, no_name, one_name, ReadsSimple, leaf, name, quoted, paren, typed, bracket, brace, Reads, simple, bare, applied, no_cons, cons, no_tuple, tuple, either, whole, ReadsOthers, no_other, one_other, ReadsList, last_one, one_more, ReadsField, pun, field, ReadsParamBy, short, parens, annotated}
 
 pub names_deeper : {start us r : List Token} {p q : Pat} {d e : ℕ} → ReadsNames start p d us q e r → d ≤ e
 names_deeper (no_name n) = omega arith

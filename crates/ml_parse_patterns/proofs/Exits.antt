@@ -1,5 +1,5 @@
 -- The exits of the readers, each at the places that its steps left.
-use Rattle.std.proofs.Common.{◌≡◌, ◌≢◌, ℕ, ◌+◌, ◌≤◌, ◌<◌, max, Bool, true, false, List, [], ◌∷◌, ◌++◌, drop, length, refl, sym, ap, ap₂, ◌∙◌, subst, arith, Some}
+use Rattle.std.proofs.Common.{◌≡◌, ◌≢◌, ℕ, ◌+◌, ◌<◌, max, true, List, [], ◌∷◌, ◌++◌, drop, length, refl, sym, ap, ◌∙◌, subst, arith, Some}
 use Rattle.oxml_base.specs.declared.span.Span.{Span}
 use Rattle.ml_lexer.specs.declared.token.Token.{Token}
 use Rattle.ml_tree.specs.declared.pattern.Pat.{Pat}
@@ -16,7 +16,7 @@ use Rattle.ml_parse_types.specs.Readers.{IsNone as NoneRead}
 use Rattle.ml_tree.specs.declared.words.Words.{Words}
 use Rattle.ml_parse_patterns.specs.declared.looks.Lead.TheVariants.{Name, Paren, Bracket, Brace}
 use Rattle.ml_parse_patterns.specs.declared.looks.Level.{Level}
-use Rattle.ml_parse_patterns.specs.declared.looks.Level.TheVariants.{Simple, Operand, Cons, Tuple, Or, Pattern}
+use Rattle.ml_parse_patterns.specs.declared.looks.Level.TheVariants.{Simple, Operand, Cons, Tuple, Pattern}
 use Rattle.ml_parse_patterns.specs.declared.looks.Listing.{Listing}
 use Rattle.ml_parse_patterns.specs.declared.looks.Listing.TheVariants.{Components, Elements}
 use Rattle.ml_parse_patterns.specs.declared.looks.After.TheVariants.{Goes, Stops}
@@ -24,17 +24,15 @@ use Rattle.ml_parse_patterns.specs.declared.looks.AfterField.TheVariants.{Next}
 use Rattle.ml_parse_patterns.specs.declared.found.Found.{Found}
 use Rattle.ml_parse_patterns.specs.declared.found.FoundList.{FoundList}
 use Rattle.ml_parse_patterns.specs.declared.found.FoundField.{FoundField}
-use Rattle.ml_parse_patterns.specs.declared.found.FoundFields.{FoundFields}
 use Rattle.ml_parse_patterns.specs.declared.found.FoundParam.{FoundParam}
-use Rattle.ml_parse_patterns.specs.declared.found.Annotation.{Annotation}
-use Rattle.ml_parse_patterns.specs.Looks.{node, lead, applies, after, after_field, param_lead, is_param}
-use Rattle.ml_parse_patterns.specs.Patterns.{level_of, Reads, ReadsSimple, name}
-use Rattle.ml_parse_patterns.specs.Readings.{IsNode, IsFound, NoTree, IsNone, IsAnnotation, NoAnnotation, IsLonger, NoList, IsField, NoField, AreFields, NoFields, IsParam, NoOthers, HasOther}
+use Rattle.ml_parse_patterns.specs.Looks.{lead, applies, after, after_field, param_lead, is_param}
+use Rattle.ml_parse_patterns.specs.Patterns.{level_of, ReadsSimple, name}
+use Rattle.ml_parse_patterns.specs.Readings.{IsNode, IsFound, NoTree, IsNone, NoAnnotation, IsLonger, NoList, IsField, NoField, NoFields, IsParam, NoOthers, HasOther}
 use Rattle.ml_parse_patterns.proofs.Refusals.{no_depth, by_lead, parens_deep, parens_open, parens_untyped, elements_deep, record_deep, operand_applied, cons_rest, tuple_rest}
-use Rattle.ml_parse_patterns.proofs.Founds.{made, by_its_lead, paren_found, typed_found, elements_found, record_found, applied_found, cons_found, tuple_found}
+use Rattle.ml_parse_patterns.proofs.Founds.{made, by_its_lead, elements_found, applied_found, cons_found, tuple_found}
 use Rattle.ml_parse_patterns.proofs.Chains.{no_other_behind, other_found}
 use Rattle.ml_parse_patterns.proofs.Shorter.{shorter, field_shorter}
-use Rattle.ml_parse_patterns.proofs.ListReadings.{SoFar, Step, begins, goes_on, ends, PatList, FieldList, ParamList, list_step, list_last, list_done, field_step, param_step}
+use Rattle.ml_parse_patterns.proofs.ListReadings.{SoFar, begins, goes_on, ends, PatList, FieldList, ParamList, list_step, list_last, field_step, param_step}
 use Rattle.ml_parse_patterns.proofs.Unique.{one_words}
 use Rattle.ml_parse_patterns.proofs.ParamReadings.{no_field_depth}
 

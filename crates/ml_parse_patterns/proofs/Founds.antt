@@ -1,5 +1,5 @@
 -- What the readers found is read.
-use Rattle.std.proofs.Common.{◌≡◌, ◌≢◌, ℕ, ◌+◌, ◌-◌, ◌≤◌, ◌<◌, max, Bool, true, false, List, [], ◌∷◌, drop, refl, sym, ap, ◌∙◌, subst, arith, Some}
+use Rattle.std.proofs.Common.{◌≡◌, ◌≢◌, ℕ, ◌+◌, ◌≤◌, max, true, false, List, [], ◌∷◌, drop, refl, sym, ap, ◌∙◌, subst, arith, Some}
 use Rattle.std.specs.Prelude.{slice_get}
 use Rattle.ml_cursor.proofs.Lists.{first_from}
 use Rattle.ml_lexer.specs.declared.token.Token.{Token}
@@ -27,7 +27,7 @@ use Rattle.ml_parse_patterns.specs.declared.found.FoundList.{FoundList}
 use Rattle.ml_parse_patterns.specs.declared.found.FoundFields.{FoundFields}
 use Rattle.ml_parse_patterns.specs.declared.found.Annotation.{Annotation}
 use Rattle.ml_parse_patterns.specs.Looks.{node, lead, leaf_kind, applies}
-use Rattle.ml_parse_patterns.specs.Patterns.{ReadsNames, no_name, one_name, ReadsSimple, leaf, quoted, paren, typed, bracket, brace, Reads, simple, bare, applied, no_cons, cons, no_tuple, tuple, either, whole, ReadsOthers, no_other, one_other, ReadsList, ReadsFields}
+use Rattle.ml_parse_patterns.specs.Patterns.{ReadsSimple, leaf, quoted, paren, typed, bracket, brace, Reads, simple, bare, applied, no_cons, cons, no_tuple, tuple, either, whole, ReadsList, ReadsFields}
 use Rattle.ml_parse_patterns.specs.Readings.{IsNode, IsFound, IsAnnotation, NoAnnotation, IsLonger, AreFields, HasOthers, HasNames}
 
 -- a node that was made is what the relation says

@@ -1,5 +1,5 @@
 -- Lists, fields and parameters, which are read one by one.
-use Rattle.std.proofs.Common.{◌≡◌, ◌≢◌, ℕ, ◌+◌, ◌-◌, ◌≤◌, ◌<◌, max, Bool, true, false, List, [], ◌∷◌, ◌++◌, drop, refl, sym, ap, ap₂, ◌∙◌, subst, arith, inl, inr}
+use Rattle.std.proofs.Common.{◌≡◌, ℕ, ◌≤◌, ◌<◌, max, Bool, true, false, List, [], ◌∷◌, ◌++◌, drop, refl, sym, ap, ap₂, ◌∙◌, subst, arith}
 use Rattle.std.proofs.lemmas.List.{append_assoc, append-nil}
 use Rattle.ml_lexer.specs.declared.token.Token.{Token}
 use Rattle.ml_tree.specs.declared.pattern.Pat.{Pat}
@@ -17,7 +17,7 @@ use Rattle.ml_parse_patterns.specs.declared.found.FoundParams.{FoundParams}
 use Rattle.ml_parse_patterns.specs.Looks.{after, after_field, param_lead, is_param}
 use Rattle.ml_parse_patterns.specs.Patterns.{level_of, Reads, ReadsList, last_one, one_more, ReadsField, ReadsFields, last_field, next_field, ReadsParam, ReadsParams, last_param, next_param}
 use Rattle.ml_parse_patterns.specs.Readings.{IsFound, NoTree, IsLonger, NoList, IsField, NoField, AreFields, NoFields, IsParam, NoParam, AreParams, NoParams}
-use Rattle.ml_parse_patterns.proofs.Unique.{Same, same, same_field, same_param}
+use Rattle.ml_parse_patterns.proofs.Unique.{same, same_field, same_param}
 
 -- the elements of a list so far, behind others of a depth, and those to come; E is what is known at the end
 pub record SoFar {A E : Type 0} (R : List Token → List A → ℕ → E → Type 0) (n : ℕ) (start : List Token) (before : List A) (depth : ℕ) (now : List Token) (list : List A) (deepest : ℕ) : Type 0 where

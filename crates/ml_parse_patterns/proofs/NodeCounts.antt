@@ -1,10 +1,10 @@
 -- At most two nodes for each token read.
-use Rattle.std.proofs.Common.{◌≡◌, ◌≢◌, ◌<◌, ◌≤◌, ◌+◌, ◌*◌, ℕ, max, Bool, List, [], ◌∷◌, length, drop, refl, subst, sym, ap, ◌∙◌, arith, rules, Some, None}
-use Rattle.std.specs.Prelude.{slice_get, sum, map, Option}
+use Rattle.std.proofs.Common.{◌≡◌, ◌≢◌, ◌≤◌, ◌+◌, ◌*◌, ℕ, Bool, List, [], ◌∷◌, length, drop, refl, sym, ap, ◌∙◌, arith, Some, None}
+use Rattle.std.specs.Prelude.{sum, map}
 use Rattle.std.proofs.lemmas.List.Sums.{sum_by-cons}
 use Rattle.oxml_base.specs.declared.span.Span.{Span}
 use Rattle.ml_lexer.specs.declared.token.Token.{Token}
-use Rattle.ml_tree.specs.declared.pattern.Pat.{Pat, fold-roll-Pat, roll-Pat}
+use Rattle.ml_tree.specs.declared.pattern.Pat.{Pat, fold-roll-Pat}
 use Rattle.ml_tree.specs.declared.pattern.FieldPat.{FieldPat, fold-roll-FieldPat}
 use Rattle.ml_tree.specs.declared.pattern.Param.{Param}
 use Rattle.ml_tree.specs.declared.pattern.PatKind.{PatKind, fold-roll-PatKind, map-PatKind, roll-PatKind}
@@ -12,7 +12,7 @@ use Rattle.ml_tree.specs.declared.pattern.PatKind.TheVariants as Kind
 use Rattle.ml_tree.specs.declared.pattern.PatKind.TheOpen as p
 use Rattle.ml_tree.specs.declared.pattern.PatKind.TheOpen.{PatKind-F}
 use Rattle.ml_tree.specs.declared.pattern.ConName.TheVariants.{Named}
-use Rattle.ml_tree.specs.Nodes.{zero_or, pattern_step, field_pattern_node, pattern_node, pattern_nodes, pattern_kind_nodes, field_pattern_nodes, param_nodes}
+use Rattle.ml_tree.specs.Nodes.{pattern_step, field_pattern_node, pattern_node, pattern_nodes, pattern_kind_nodes, field_pattern_nodes, param_nodes}
 use Rattle.ml_cursor.specs.Fronts.{front}
 use Rattle.ml_cursor.specs.declared.front.Front.TheVariants as Front
 use Rattle.ml_cursor.specs.Places.{extent, first_span}

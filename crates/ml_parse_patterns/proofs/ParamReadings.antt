@@ -1,5 +1,5 @@
 -- Fields of record patterns, and parameters.
-use Rattle.std.proofs.Common.{◌≡◌, ◌≢◌, ℕ, ◌+◌, ◌≤◌, ◌<◌, List, [], ◌∷◌, drop, refl, sym, ap, ◌∙◌, subst, arith}
+use Rattle.std.proofs.Common.{◌≡◌, ◌≢◌, ℕ, ◌+◌, ◌≤◌, ◌<◌, List, drop, sym, ap, ◌∙◌, subst, arith}
 use Rattle.std.proofs.lemmas.List.{drop-drop}
 use Rattle.oxml_base.specs.declared.span.Span.{Span}
 use Rattle.ml_lexer.specs.declared.token.Token.{Token}
@@ -26,7 +26,7 @@ use Rattle.ml_parse_patterns.specs.Looks.{node, leaf_kind, param_lead}
 use Rattle.ml_parse_patterns.specs.Patterns.{Reads, ReadsField, pun, field, ReadsParamBy, short, parens, annotated, ReadsParam}
 use Rattle.ml_parse_patterns.specs.Readings.{IsFound, NoTree, IsField, NoField, IsParam, NoParam, NoAnnotation, HasType}
 use Rattle.ml_parse_patterns.proofs.Depths.{field_positive, param_positive}
-use Rattle.ml_parse_patterns.proofs.Unique.{Same, same, one_words}
+use Rattle.ml_parse_patterns.proofs.Unique.{same, one_words}
 
 twice : (ts us hs : List Token) → us ≡ drop 1 ts → hs ≡ drop 1 us → hs ≡ drop 2 ts
 twice ts us hs e f = f ∙ ap (λ x. drop 1 x) e ∙ drop-drop 1 1 ts

@@ -1,24 +1,22 @@
 -- Where no tree is shallow enough, or none at all.
-use Rattle.std.proofs.Common.{◌≡◌, ◌≢◌, ℕ, ◌+◌, ◌-◌, ◌≤◌, ◌<◌, max, Bool, true, false, List, [], ◌∷◌, drop, refl, sym, ap, ◌∙◌, subst, arith}
+use Rattle.std.proofs.Common.{◌≡◌, ◌≢◌, ℕ, ◌+◌, ◌≤◌, ◌<◌, Bool, true, false, List, drop, sym, ap, ◌∙◌, subst, arith}
 use Rattle.ml_lexer.specs.declared.token.Token.{Token}
 use Rattle.ml_tree.specs.declared.pattern.Pat.{Pat}
 use Rattle.ml_cursor.specs.declared.front.Front.{Front}
-use Rattle.ml_cursor.specs.declared.front.Front.TheVariants as Front
 use Rattle.ml_cursor.specs.Fronts.{front}
 use Rattle.ml_parse_patterns.specs.declared.looks.Lead.{Lead}
-use Rattle.ml_parse_patterns.specs.declared.looks.Lead.TheVariants.{Nothing, Whole, Name, Quoted, Paren, Bracket, Brace}
+use Rattle.ml_parse_patterns.specs.declared.looks.Lead.TheVariants.{Nothing, Paren, Bracket, Brace}
 use Rattle.ml_parse_patterns.specs.declared.looks.Level.{Level}
 use Rattle.ml_parse_patterns.specs.declared.looks.Level.TheVariants.{Simple, Operand, Cons, Tuple, Or, Pattern}
-use Rattle.ml_parse_patterns.specs.declared.looks.Listing.{Listing}
 use Rattle.ml_parse_patterns.specs.declared.looks.Listing.TheVariants.{Components, Elements}
 use Rattle.ml_parse_patterns.specs.declared.found.Found.{Found}
 use Rattle.ml_parse_types.specs.declared.looks.Row.TheVariants.{Factors}
 use Rattle.ml_parse_types.specs.Types.{got, ReadsType}
 use Rattle.ml_parse_patterns.specs.Looks.{lead, applies}
-use Rattle.ml_parse_patterns.specs.Patterns.{ReadsNames, no_name, one_name, ReadsSimple, leaf, name, quoted, paren, typed, bracket, brace, Reads, simple, bare, applied, no_cons, cons, no_tuple, tuple, either, whole, ReadsOthers, no_other, one_other, ReadsList, ReadsField, ReadsFields}
+use Rattle.ml_parse_patterns.specs.Patterns.{ReadsNames, ReadsSimple, paren, typed, bracket, brace, Reads, simple, bare, applied, no_cons, cons, no_tuple, tuple, either, whole, ReadsOthers, ReadsList}
 use Rattle.ml_parse_patterns.specs.Readings.{IsFound, NoTree, IsNone, NoAnnotation, NoList, NoFields, NoOthers, NoNames}
-use Rattle.ml_parse_patterns.proofs.Depths.{positive, simple_positive, others_deeper, names_deeper}
-use Rattle.ml_parse_patterns.proofs.Unique.{Same, same, same_simple, moved}
+use Rattle.ml_parse_patterns.proofs.Depths.{positive, others_deeper, names_deeper}
+use Rattle.ml_parse_patterns.proofs.Unique.{same, moved}
 
 -- a simple pattern is read by what it begins with
 pub by_lead : {text : List ℕ} {l : Lead} {ts r : List Token} {p : Pat} {d : ℕ} → lead ts ≡ l → Reads text Simple ts p d r → ReadsSimple text l ts p d r

@@ -1,12 +1,11 @@
 -- What is read takes at least one token.
-use Rattle.std.proofs.Common.{◌≡◌, ◌≢◌, ◌<◌, ◌≤◌, ℕ, zero, suc, max, Bool, true, false, List, [], ◌∷◌, length, drop, refl, subst, sym, ap, ◌∙◌, arith, Some, None}
+use Rattle.std.proofs.Common.{◌≡◌, ◌<◌, ◌≤◌, ℕ, zero, suc, Bool, List, [], ◌∷◌, length, drop, refl, sym, arith, Some}
 use Rattle.std.specs.Prelude.{slice_get}
 use Rattle.ml_lexer.specs.declared.token.Token.{Token}
 use Rattle.ml_tree.specs.declared.pattern.Pat.{Pat}
 use Rattle.ml_tree.specs.declared.pattern.FieldPat.{FieldPat}
 use Rattle.ml_tree.specs.declared.pattern.Param.{Param}
 use Rattle.ml_cursor.specs.declared.front.Front.{Front}
-use Rattle.ml_cursor.specs.declared.front.Front.TheVariants as Front
 use Rattle.ml_cursor.specs.Fronts.{front}
 use Rattle.ml_parse_types.proofs.Shorter.{length-drop, words_rest, type_rest}
 use Rattle.ml_parse_patterns.specs.declared.looks.Leaf.{Leaf}

@@ -1,5 +1,5 @@
 -- A token that begins a text literal is one of the kind Text.
-use Rattle.std.proofs.Common.{◌≡◌, ℕ, zero, suc, Bool, true, false, cond, List, [], ◌∷◌, drop, Option, Some, None, refl, sym, ap, ◌∙◌, subst, All}
+use Rattle.std.proofs.Common.{◌≡◌, ℕ, zero, suc, Bool, true, false, cond, List, [], ◌∷◌, drop, Some, None, refl, sym, ap, ◌∙◌, subst, All}
 use Rattle.std.specs.Prelude.{slice_get, unwrap_or}
 use Rattle.std.proofs.lemmas.Option.{slice_get_within, get_or_from_slice_get}
 use Rattle.std.proofs.lemmas.List.Elements.{All-get_or}
@@ -9,9 +9,7 @@ use Rattle.ml_lexer.specs.declared.token.TokenKind.{TokenKind}
 use Rattle.ml_lexer.specs.declared.token.TokenKind.TheVariants as Kinds
 use Rattle.ml_lexer.specs.Tokens.{IsSound, IsTextToken}
 use Rattle.ml_cursor.specs.declared.front.Front.{Front}
-use Rattle.ml_cursor.specs.declared.front.Front.TheVariants as Front
 use Rattle.ml_cursor.specs.Fronts.{front, front_by, of_kind, of_sign, of_word, signs, words}
-use Rattle.ml_parse_patterns.specs.declared.looks.Lead.{Lead}
 use Rattle.ml_parse_patterns.specs.declared.looks.Lead.TheVariants.{Quoted}
 use Rattle.ml_parse_patterns.specs.Looks.{lead, lead_by, minus_by, paren_by, bracket_by}
 

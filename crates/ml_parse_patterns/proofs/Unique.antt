@@ -1,6 +1,5 @@
 -- One tree, depth and rest for each part.
-use Rattle.std.proofs.Common.{◌≡◌, ◌≢◌, ℕ, ◌+◌, max, Bool, true, false, List, [], ◌∷◌, drop, Option, Some, refl, sym, ap, ap₂, subst, ◌∙◌}
-use Rattle.std.specs.Prelude.{slice_get}
+use Rattle.std.proofs.Common.{◌≡◌, ◌≢◌, ℕ, ◌+◌, max, Bool, true, false, List, [], ◌∷◌, drop, Some, refl, sym, ap, ap₂, subst, ◌∙◌}
 use Rattle.ml_lexer.specs.declared.token.Token.{Token}
 use Rattle.ml_lexer.specs.Tokens.{IsLiteral}
 use Rattle.ml_lexer.proofs.Unique.{one_literal}
@@ -12,14 +11,13 @@ use Rattle.ml_tree.specs.declared.pattern.ConName.TheVariants.{Named}
 use Rattle.ml_tree.specs.declared.types.TyExpr.{TyExpr}
 use Rattle.ml_tree.specs.declared.words.Words.{Words}
 use Rattle.ml_cursor.specs.declared.front.Front.{Front}
-use Rattle.ml_cursor.specs.declared.front.Front.TheVariants as Front
 use Rattle.ml_cursor.specs.Fronts.{front}
 use Rattle.ml_cursor.specs.Places.{first_span}
 use Rattle.ml_parse_patterns.specs.declared.looks.Lead.{Lead}
 use Rattle.ml_parse_patterns.specs.declared.looks.Level.{Level}
-use Rattle.ml_parse_patterns.specs.declared.looks.Level.TheVariants.{Simple, Operand, Cons, Tuple, Or, Pattern}
+use Rattle.ml_parse_patterns.specs.declared.looks.Level.TheVariants.{Cons, Pattern}
 use Rattle.ml_parse_patterns.specs.declared.looks.Listing.{Listing}
-use Rattle.ml_parse_patterns.specs.declared.looks.Listing.TheVariants.{Components, Elements}
+use Rattle.ml_parse_patterns.specs.declared.looks.Listing.TheVariants.{Components}
 use Rattle.ml_parse_patterns.specs.declared.looks.After.{After}
 use Rattle.ml_parse_patterns.specs.declared.looks.After.TheVariants.{Goes, Stops}
 use Rattle.ml_parse_patterns.specs.declared.looks.AfterField.{AfterField}
@@ -29,7 +27,7 @@ use Rattle.ml_parse_types.specs.declared.looks.Row.TheVariants.{Factors}
 use Rattle.ml_parse_types.specs.Types.{Got, got, ReadsType, ReadsWords}
 use Rattle.ml_parse_types.proofs.Unique.{same_words, same_type}
 use Rattle.ml_parse_patterns.specs.Looks.{node, after, after_field, param_lead, is_param}
-use Rattle.ml_parse_patterns.specs.Patterns.{level_of, ReadsNames, no_name, one_name, ReadsSimple, leaf, name, quoted, paren, typed, bracket, brace, Reads, simple, bare, applied, no_cons, cons, no_tuple, tuple, either, whole, ReadsOthers, no_other, one_other, ReadsList, last_one, one_more, ReadsField, pun, field, ReadsFields, last_field, next_field, ReadsParamBy, short, parens, annotated, ReadsParam, ReadsParams, last_param, next_param}
+use Rattle.ml_parse_patterns.specs.Patterns.{ReadsNames, no_name, one_name, ReadsSimple, leaf, name, quoted, paren, typed, bracket, brace, Reads, simple, bare, applied, no_cons, cons, no_tuple, tuple, either, whole, ReadsOthers, no_other, one_other, ReadsList, last_one, one_more, ReadsField, pun, field, ReadsFields, last_field, next_field, ReadsParamBy, short, parens, annotated, ReadsParams, last_param, next_param}
 
 -- a second reading gives what a first one gave
 pub record Same {A : Type 0} (x y : A) (d e : ℕ) (us vs : List Token) : Type 0 where

@@ -1,13 +1,11 @@
 -- What begins at the front of a list of tokens, and how a list of patterns goes on there.
-use Rattle.std.specs.Prelude.{ℕ, ◌+◌, ◌-◌, ◌^◌, Bool, true, false, List, drop, Option, Some, None, ℤ, pos, negsuc, neg_ℤ, nat_lt, if◌then◌else◌}
-use Rattle.oxml_base.specs.declared.span.Span.{Span}
+use Rattle.std.specs.Prelude.{◌+◌, ◌-◌, ◌^◌, Bool, true, false, List, drop, None, ℤ, pos, negsuc, neg_ℤ, nat_lt, if◌then◌else◌}
 use Rattle.ml_lexer.specs.declared.token.Token.{Token}
 use Rattle.ml_tree.specs.declared.pattern.ConName.TheVariants as Name
 use Rattle.ml_tree.specs.declared.pattern.Pat.{Pat}
 use Rattle.ml_tree.specs.declared.pattern.PatKind.{PatKind}
 use Rattle.ml_tree.specs.declared.pattern.PatKind.TheVariants as Kind
 use Rattle.ml_cursor.specs.declared.front.Front.{Front}
-use Rattle.ml_cursor.specs.declared.front.Front.TheVariants as Front
 use Rattle.ml_cursor.specs.Fronts.{front}
 use Rattle.ml_parse_types.specs.Looks.{no_words}
 use Rattle.ml_cursor.specs.Places.{first_span, extent, int_value, char_value}

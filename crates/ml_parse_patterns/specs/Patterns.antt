@@ -1,6 +1,6 @@
 -- The patterns and parameters of the grammar (OCaml manual, patterns): each relation says that the
 -- longest such part at the front of some tokens is this tree, of this depth, and which tokens follow.
-use Rattle.std.specs.Prelude.{◌≡◌, ◌≢◌, ℕ, ◌+◌, max, Bool, true, false, List, [], ◌∷◌, drop, slice_get, Option, Some, None}
+use Rattle.std.specs.Prelude.{◌≡◌, ◌≢◌, ℕ, ◌+◌, max, Bool, true, false, List, [], ◌∷◌, drop, slice_get, Some}
 use Rattle.ml_lexer.specs.declared.token.Token.{Token}
 use Rattle.ml_lexer.specs.Tokens.{IsLiteral}
 use Rattle.ml_tree.specs.declared.pattern.ConName.TheVariants.{Named}

@@ -1,4 +1,4 @@
-use Rattle.std.proofs.Common.{◌≡◌, ◌≢◌, ◌+◌, ◌-◌, ◌≤◌, ◌<◌, Bool, true, false, [], ◌∷◌, ◌++◌, max, drop, refl, sym, ap, ap₂, ◌∙◌, arith, rules}
+use Rattle.std.proofs.Common.{◌≡◌, ◌≢◌, ◌+◌, ◌-◌, ◌≤◌, true, false, [], ◌∷◌, ◌++◌, max, drop, refl, sym, ap, ap₂, ◌∙◌, arith, rules}
 use Rattle.std.proofs.lemmas.Grind.{common_steps}
 use Rattle.oxml_base.specs.declared.span.Span.{Span}
 use Rattle.ml_tree.specs.declared.pattern.FieldPat.{FieldPat}
@@ -6,10 +6,8 @@ use Rattle.ml_tree.specs.declared.pattern.Pat.{Pat}
 use Rattle.ml_tree.specs.declared.pattern.PatKind.{PatKind}
 use Rattle.ml_cursor.specs.declared.front.Front.TheVariants as Front
 use Rattle.ml_cursor.specs.Fronts.{front}
-use Rattle.ml_cursor.specs.Places.{first_span}
 use Rattle.ml_parse_patterns.specs.declared.looks.Leaf.TheVariants.{Bound}
-use Rattle.ml_parse_patterns.specs.declared.looks.Level.TheVariants.{Simple, Operand, Cons, Tuple, Or, Pattern}
-use Rattle.ml_parse_patterns.specs.Looks.{node, leaf_kind, lead, applies}
+use Rattle.ml_parse_patterns.specs.Looks.{node, leaf_kind, applies}
 use Rattle.ml_parse_patterns.specs.Patterns.{level_of}
 use Rattle.ml_parse_patterns.proofs.Relays.{relay, says, if_ok, if_err}
 use Rattle.ml_parse_patterns.proofs.Refusals.{nothing_begins, none_at_all, operand_bare, cons_deep, cons_full, tuple_deep, tuple_full, pattern_cons, pattern_tuple, pattern_others, pattern_names}

@@ -1,4 +1,4 @@
-use Rattle.std.proofs.Common.{◌≡◌, [], ◌∷◌, ◌++◌, max, Bool, true, false, drop, arith, rules}
+use Rattle.std.proofs.Common.{◌≡◌, [], ◌∷◌, ◌++◌, max, true, false, drop, arith, rules}
 use Rattle.std.proofs.lemmas.Grind.{common_steps}
 use Rattle.ml_parse_patterns.specs.Looks.{is_param, param_lead}
 use Rattle.ml_parse_patterns.proofs.Relays.{relay}

@@ -1,4 +1,4 @@
-use Rattle.std.proofs.Common.{◌≡◌, ◌≢◌, ◌<◌, drop, ap₂, arith, rules}
+use Rattle.std.proofs.Common.{◌≡◌, ◌≢◌, drop, ap₂, rules}
 use Rattle.ml_tree.specs.declared.pattern.Pat.{Pat}
 use Rattle.ml_tree.specs.declared.pattern.Param.{Param}
 use Rattle.ml_tree.specs.declared.words.Words.{Words}

@@ -3,7 +3,7 @@ use Rattle.oxml_base.specs.declared.span.Span.{Span}
 use Rattle.ml_tree.specs.declared.pattern.PatKind.TheVariants as Kind
 use Rattle.ml_parse_patterns.specs.Looks.{node}
 use Rattle.ml_parse_patterns.proofs.Relays.{relay}
-use Rattle.ml_parse_patterns.proofs.Exits.{words_absent, name_absent, name_read}
+use Rattle.ml_parse_patterns.proofs.Exits.{name_absent, name_read}
 use Rattle.ml_parse_patterns.proofs.simple.read_name.Goals as goal
 
 pub returns-in_err-name-clause-err : goal.returns-in_err-name-clause-err

@@ -1,4 +1,4 @@
-use Rattle.std.proofs.Common.{refl, sym, ap, ◌∙◌, drop, Some}
+use Rattle.std.proofs.Common.{refl, sym, ap, ◌∙◌}
 use Rattle.std.specs.Option.{option_copied}
 use Rattle.ml_parse_patterns.proofs.Founds.{text_found}
 use Rattle.ml_parse_patterns.proofs.TextTokens.{text_absent, text_token}
