@@ -1,5 +1,5 @@
 -- A list of items, read one by one: the items so far, and those that go on.
-use Rattle.std.proofs.Common.{◌≡◌, ◌<◌, ◌≤◌, ℕ, suc, List, [], ◌∷◌, ◌++◌, length, drop, refl, subst, sym, ap, ◌∙◌, arith, append-nil}
+use Rattle.std.proofs.Common.{◌≡◌, ◌<◌, ℕ, List, [], ◌∷◌, ◌++◌, length, drop, refl, subst, sym, ap, ◌∙◌, arith}
 use Rattle.ml_lexer.specs.declared.token.Token.{Token}
 use Rattle.ml_parse_types.specs.declared.looks.After.{After}
 use Rattle.ml_parse_types.specs.declared.looks.After.TheVariants.{Goes, Ends, Fails}

@@ -1,5 +1,5 @@
 -- One step along the mode words at the front of a list of tokens.
-use Rattle.std.proofs.Common.{◌≡◌, ◌<◌, ◌≤◌, ℕ, List, [], ◌∷◌, length, drop, subst, sym, ◌∙◌, arith, refl}
+use Rattle.std.proofs.Common.{◌≡◌, ◌<◌, List, [], ◌∷◌, length, drop, subst, sym, ◌∙◌, arith}
 use Rattle.ml_lexer.specs.declared.token.Token.{Token}
 use Rattle.ml_tree.specs.declared.words.Words.{Words}
 use Rattle.ml_cursor.specs.Fronts.{front}

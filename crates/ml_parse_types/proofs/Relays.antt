@@ -1,6 +1,5 @@
 -- What an error that is handed on says.
 use Rattle.std.proofs.Common.{◌≡◌, List, subst, sym, Result, Ok, Err, IfOk, IfErr, IsErrAnd}
-use Rattle.oxml_base.specs.declared.refusal.Refusal.{Refusal}
 use Rattle.ml_lexer.specs.declared.token.Token.{Token}
 use Rattle.ml_cursor.specs.declared.error.ParseErr.{ParseErr}
 use Rattle.ml_cursor.specs.declared.error.ParseErr.TheVariants.{Refused, NoMemory}

@@ -1,28 +1,25 @@
 -- What is read takes at least one token, except for words and the names behind a type.
-use Rattle.std.proofs.Common.{◌≡◌, ◌≢◌, ◌<◌, ◌≤◌, ℕ, zero, suc, max, Bool, true, false, List, [], ◌∷◌, length, drop, refl, subst, sym, ap, ◌∙◌, arith}
-use Rattle.std.specs.Prelude.{Option, Some, None}
+use Rattle.std.proofs.Common.{◌≡◌, ◌≢◌, ◌<◌, ◌≤◌, ℕ, zero, suc, Bool, true, false, List, [], ◌∷◌, length, drop, refl, subst, sym, ap, ◌∙◌, arith}
+use Rattle.std.specs.Prelude.{Some, None}
 use Rattle.ml_lexer.specs.declared.token.Token.{Token}
 use Rattle.oxml_base.specs.declared.span.Span.{Span}
 use Rattle.ml_tree.specs.declared.words.Words.{Words}
 use Rattle.ml_tree.specs.declared.types.TyExpr.{TyExpr}
 use Rattle.ml_tree.specs.declared.types.Arg.{Arg}
-use Rattle.ml_tree.specs.declared.types.ConDecl.{ConDecl}
-use Rattle.ml_tree.specs.declared.types.FieldDecl.{FieldDecl}
 use Rattle.ml_tree.specs.declared.types.DeclBody.{DeclBody}
-use Rattle.ml_tree.specs.declared.types.Decl.{Decl}
 use Rattle.ml_cursor.specs.declared.front.Front.{Front}
 use Rattle.ml_cursor.specs.declared.front.Front.TheVariants.{Nothing, TypeVar, Lower, Upper}
 use Rattle.ml_cursor.specs.Fronts.{front}
 use Rattle.ml_parse_types.specs.declared.looks.Row.{Row}
 use Rattle.ml_parse_types.specs.declared.looks.After.{After}
 use Rattle.ml_parse_types.specs.declared.looks.TypeStart.{TypeStart}
-use Rattle.ml_parse_types.specs.declared.looks.TypeStart.TheVariants.{Variable, Named, Group, Other}
+use Rattle.ml_parse_types.specs.declared.looks.TypeStart.TheVariants.{Variable, Named, Other}
 use Rattle.ml_parse_types.specs.declared.looks.VarsStart.{VarsStart}
 use Rattle.ml_parse_types.specs.declared.words.WordStep.{WordStep}
 use Rattle.ml_parse_types.specs.declared.looks.BodyStart.{BodyStart}
 use Rattle.ml_parse_types.specs.Decls.{ReadsItems, items, ItemsBy, last_item, next_item, ReadsVar, a_var, VarsBy, no_vars, one_var, some_vars, ReadsArg, con_arg, ArgsBy, no_args, some_args, ReadsCon, con, ReadsField, field, BodyBy, barred, variant, fields, alias, ReadsDecl, decl, decl_behind}
-use Rattle.ml_parse_types.specs.Looks.{type_start, is_name, is_arrow}
-use Rattle.ml_parse_types.specs.Types.{Got, got, Read, read, WordsBy, words_end, word_more, product, product_by, group, group_by, arguments_by, NamesBy, no_name, one_name, AtomBy, a_variable, a_name, a_group, ReadsOperand, operand, ReadsPart, alone, factor, argument, ReadsList, row, ListBy, the_last, one_more, ReadsSide, side, SideBy, no_arrow, to_arrow, ReadsType}
+use Rattle.ml_parse_types.specs.Looks.{type_start}
+use Rattle.ml_parse_types.specs.Types.{Got, Read, WordsBy, words_end, word_more, product_by, group_by, arguments_by, NamesBy, no_name, one_name, AtomBy, a_variable, a_name, a_group, ReadsOperand, operand, ReadsPart, alone, factor, argument, ReadsList, row, ListBy, the_last, one_more, ReadsSide, side, SideBy, no_arrow, to_arrow, ReadsType}
 
 pub some-some : {A : Type 0} {a b : A} → Some a ≡ Some b → a ≡ b
 some-some h = cc

@@ -1,14 +1,13 @@
 -- The nodes that the readers of types make are those that the grammar names.
-use Rattle.std.proofs.Common.{◌≡◌, ◌≢◌, ◌<◌, ◌≤◌, ◌+◌, ℕ, suc, Bool, true, false, List, [], ◌∷◌, ◌++◌, length, drop, refl, subst, sym, ap, ◌∙◌, arith}
-use Rattle.std.specs.Prelude.{Option, Some, None}
-use Rattle.oxml_base.specs.declared.span.Span.{Span}
+use Rattle.std.proofs.Common.{◌≡◌, ◌≢◌, ◌<◌, ◌≤◌, ◌+◌, ℕ, suc, Bool, true, false, List, [], ◌∷◌, ◌++◌, length, drop, refl, sym, ap, ◌∙◌, arith}
+use Rattle.std.specs.Prelude.{Some, None}
 use Rattle.ml_lexer.specs.declared.token.Token.{Token}
 use Rattle.ml_tree.specs.declared.types.TyExpr.{TyExpr}
 use Rattle.ml_tree.specs.declared.types.TyKind.TheVariants.{Tuple}
 use Rattle.ml_cursor.specs.Fronts.{front}
 use Rattle.ml_cursor.specs.Places.{first_span, extent}
 use Rattle.ml_parse_types.specs.Looks.{is_name}
-use Rattle.ml_parse_types.specs.Types.{Read, read, a_type, applied, product, product_by, group, group_by, arguments_by, postfix}
+use Rattle.ml_parse_types.specs.Types.{read, a_type, applied, product, group, arguments_by, postfix}
 
 pub a_postfix : (ts r us : List Token) (t u : TyExpr) (d e : ℕ) → u ≡ applied (extent ts us) (first_span r) (t ∷ []) → us ≡ drop 1 r → e ≡ d + 1 → read u e us ≡ postfix ts (read t d r)
 a_postfix ts r us t u d e f g h =

@@ -1,23 +1,20 @@
 -- The parts of a type, one lemma for each way out of its reader.
-use Rattle.std.proofs.Common.{◌≡◌, ◌≢◌, ◌<◌, ◌≤◌, ◌+◌, ◌-◌, ℕ, zero, suc, max, Bool, true, false, List, [], ◌∷◌, ◌++◌, length, drop, refl, subst, sym, ap, ◌∙◌, arith}
-use Rattle.std.specs.Prelude.{Option, Some, None}
-use Rattle.oxml_base.specs.declared.span.Span.{Span}
+use Rattle.std.proofs.Common.{◌≡◌, ◌≢◌, ◌<◌, ◌≤◌, ◌+◌, ◌-◌, ℕ, suc, max, Bool, true, false, List, [], ◌∷◌, drop, refl, subst, sym, ap, ◌∙◌, arith}
+use Rattle.std.specs.Prelude.{Some, None}
 use Rattle.ml_lexer.specs.declared.token.Token.{Token}
 use Rattle.ml_tree.specs.declared.words.Words.{Words}
 use Rattle.ml_tree.specs.declared.types.TyExpr.{TyExpr}
-use Rattle.ml_tree.specs.declared.types.Arg.{Arg, out-Arg}
+use Rattle.ml_tree.specs.declared.types.Arg.{Arg}
 use Rattle.ml_cursor.specs.Fronts.{front}
 use Rattle.ml_cursor.specs.Places.{first_span, extent}
 use Rattle.ml_parse_types.specs.declared.looks.Row.{Row}
 use Rattle.ml_parse_types.specs.declared.looks.Row.TheVariants.{Alone, Factors, Arguments}
-use Rattle.ml_parse_types.specs.declared.looks.After.{After}
-use Rattle.ml_parse_types.specs.declared.looks.After.TheVariants.{Goes, Ends, Fails}
 use Rattle.ml_parse_types.specs.declared.looks.TypeStart.{TypeStart}
 use Rattle.ml_parse_types.specs.declared.looks.TypeStart.TheVariants.{Variable, Named, Group, Other}
-use Rattle.ml_parse_types.specs.Looks.{type_start, is_name, is_arrow, behind_part, no_words}
-use Rattle.ml_parse_types.specs.Types.{Got, got, Read, read, ReadsWords, variable, applied, an_arg, an_arrow, product, product_by, group, group_by, arguments_by, postfix, NamesBy, no_name, one_name, NamesFrom, AtomBy, a_variable, a_name, a_group, ReadsOperand, operand, ReadsPart, alone, factor, argument, ReadsList, row, ListBy, the_last, one_more, ReadsSide, side, SideBy, no_arrow, to_arrow, SideFrom, ReadsType}
+use Rattle.ml_parse_types.specs.Looks.{type_start, is_name, is_arrow, no_words}
+use Rattle.ml_parse_types.specs.Types.{Got, got, Read, read, ReadsWords, variable, applied, an_arg, an_arrow, product, product_by, group, group_by, arguments_by, postfix, NamesBy, no_name, one_name, NamesFrom, AtomBy, a_variable, a_name, a_group, ReadsOperand, operand, ReadsPart, alone, factor, argument, ReadsList, ReadsSide, side, SideBy, no_arrow, to_arrow, SideFrom, ReadsType}
 use Rattle.ml_parse_types.specs.Readers.{IsFound, IsDeep, IsNone, ReadsAtom, ReadsWhole}
-use Rattle.ml_parse_types.proofs.Unique.{same_words, same_names, same_atom, same_operand, same_part, same_list, same_side, unworded}
+use Rattle.ml_parse_types.proofs.Unique.{same_words, same_atom, same_list, same_side}
 use Rattle.ml_parse_types.proofs.Shorter.{some-some, none-some}
 
 -- atoms

@@ -1,6 +1,6 @@
 -- What stands at the front of a list of tokens is one thing.
-use Rattle.std.proofs.Common.{◌≡◌, ℕ, suc, max, Bool, List, [], ◌∷◌, drop, refl, ap, subst, sym, ◌∙◌}
-use Rattle.std.specs.Prelude.{Option, Some, None}
+use Rattle.std.proofs.Common.{◌≡◌, suc, max, Bool, List, ◌∷◌, drop, refl, ap, subst, sym, ◌∙◌}
+use Rattle.std.specs.Prelude.{Some}
 use Rattle.ml_lexer.specs.declared.token.Token.{Token}
 use Rattle.ml_tree.specs.declared.words.Words.{Words}
 use Rattle.ml_tree.specs.declared.types.TyExpr.{TyExpr}
@@ -8,7 +8,7 @@ use Rattle.ml_tree.specs.declared.types.Arg.{Arg, out-Arg}
 use Rattle.ml_cursor.specs.Fronts.{front}
 use Rattle.ml_cursor.specs.Places.{extent}
 use Rattle.ml_parse_types.specs.declared.looks.Row.{Row}
-use Rattle.ml_parse_types.specs.declared.looks.Row.TheVariants.{Alone, Factors, Arguments}
+use Rattle.ml_parse_types.specs.declared.looks.Row.TheVariants.{Alone, Factors}
 use Rattle.ml_parse_types.specs.declared.looks.After.{After}
 use Rattle.ml_parse_types.specs.declared.looks.TypeStart.{TypeStart}
 use Rattle.ml_parse_types.specs.declared.words.WordStep.{WordStep}
@@ -22,8 +22,8 @@ use Rattle.ml_parse_types.specs.declared.looks.VarsStart.{VarsStart}
 use Rattle.ml_parse_types.specs.declared.looks.BodyStart.{BodyStart}
 use Rattle.ml_parse_types.specs.Looks.{body_start}
 use Rattle.ml_parse_types.specs.Decls.{ReadsItems, items, ItemsBy, last_item, next_item, ReadsVar, a_var, VarsBy, no_vars, one_var, some_vars, ReadsArg, con_arg, ArgsBy, no_args, some_args, a_con, ReadsCon, con, a_field, ReadsField, field, BodyBy, barred, variant, fields, alias, a_decl, ReadsDecl, decl, decl_behind}
-use Rattle.ml_parse_types.specs.Looks.{type_start, is_name, is_arrow, behind_part, no_words}
-use Rattle.ml_parse_types.specs.Types.{Got, got, Read, read, ReadsType, WordsBy, words_end, word_more, ReadsWords, an_arg, an_arrow, product, group, NamesBy, no_name, one_name, AtomBy, a_variable, a_name, a_group, ReadsOperand, operand, ReadsPart, alone, factor, argument, ReadsList, row, ListBy, the_last, one_more, ReadsSide, side, SideBy, no_arrow, to_arrow}
+use Rattle.ml_parse_types.specs.Looks.{is_name, is_arrow, behind_part, no_words}
+use Rattle.ml_parse_types.specs.Types.{Got, got, Read, read, ReadsType, WordsBy, words_end, word_more, an_arg, an_arrow, product, group, NamesBy, no_name, one_name, AtomBy, a_variable, a_name, a_group, ReadsOperand, operand, ReadsPart, alone, factor, argument, ReadsList, row, ListBy, the_last, one_more, ReadsSide, side, SideBy, no_arrow, to_arrow}
 
 pub same_words : {k : WordStep} {ts : List Token} {w : Words} {o p : Got Words} → WordsBy k ts w o → WordsBy k ts w p → o ≡ p
 same_words words_end words_end = refl

@@ -11,7 +11,6 @@ use Rattle.ml_tree.specs.declared.types.FieldDecl.{FieldDecl}
 use Rattle.ml_tree.specs.declared.types.DeclBody.{DeclBody}
 use Rattle.ml_tree.specs.declared.types.DeclBody.TheVariants.{Variant, Fields, Alias}
 use Rattle.ml_tree.specs.declared.types.Decl.{Decl}
-use Rattle.ml_cursor.specs.declared.front.Front.{Front}
 use Rattle.ml_cursor.specs.declared.front.Front.TheVariants as F
 use Rattle.ml_cursor.specs.Fronts.{front}
 use Rattle.ml_cursor.specs.Places.{first_span}
@@ -22,8 +21,8 @@ use Rattle.ml_parse_types.specs.declared.looks.VarsStart.{VarsStart}
 use Rattle.ml_parse_types.specs.declared.looks.VarsStart.TheVariants.{NoVars, OneVar, VarGroup}
 use Rattle.ml_parse_types.specs.declared.looks.BodyStart.{BodyStart}
 use Rattle.ml_parse_types.specs.declared.looks.BodyStart.TheVariants.{Bar, Constructor, Brace, Other}
-use Rattle.ml_parse_types.specs.Looks.{no_words, is_of, behind_var, behind_factor, behind_con, behind_field, behind_decl, vars_start, body_start}
-use Rattle.ml_parse_types.specs.Types.{Got, got, ReadsWords, an_arg, ReadsTypeOf, ReadsType}
+use Rattle.ml_parse_types.specs.Looks.{is_of, behind_var, behind_factor, behind_con, behind_field, behind_decl, vars_start, body_start}
+use Rattle.ml_parse_types.specs.Types.{Got, got, ReadsWords, an_arg, ReadsType}
 
 mutual
   -- a list of such items, one or more; what stands behind each says whether one more comes

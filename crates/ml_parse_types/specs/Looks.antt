@@ -1,13 +1,11 @@
 -- What one or two tokens say of what begins and of what goes on.
-use Rattle.std.specs.Prelude.{ℕ, Bool, true, false, List, drop, Option, Some, None}
+use Rattle.std.specs.Prelude.{Bool, true, false, Option, Some, None}
 use Rattle.ml_tree.specs.declared.words.Words.{Words}
 use Rattle.ml_tree.specs.declared.words.Loc.TheVariants as L
 use Rattle.ml_tree.specs.declared.words.Uni.TheVariants as U
 use Rattle.ml_tree.specs.declared.words.Aff.TheVariants as A
-use Rattle.ml_lexer.specs.declared.token.Token.{Token}
 use Rattle.ml_cursor.specs.declared.front.Front.{Front}
 use Rattle.ml_cursor.specs.declared.front.Front.TheVariants as F
-use Rattle.ml_cursor.specs.Fronts.{front}
 use Rattle.ml_parse_types.specs.declared.looks.Row.{Row}
 use Rattle.ml_parse_types.specs.declared.looks.Row.TheVariants.{Alone, Factors, Arguments}
 use Rattle.ml_parse_types.specs.declared.looks.After.{After}

@@ -1,5 +1,5 @@
 -- What the readers answer: what stands at the front of the tokens, or that nothing does.
-use Rattle.std.specs.Prelude.{◌≡◌, ℕ, ◌≤◌, ◌<◌, List}
+use Rattle.std.specs.Prelude.{ℕ, ◌≤◌, ◌<◌, List}
 use Rattle.ml_lexer.specs.declared.token.Token.{Token}
 use Rattle.ml_tree.specs.declared.types.TyExpr.{TyExpr}
 use Rattle.ml_cursor.specs.Fronts.{front}

@@ -14,7 +14,7 @@ use Rattle.ml_cursor.specs.Places.{first_span, extent}
 use Rattle.ml_parse_types.specs.declared.looks.Row.{Row}
 use Rattle.ml_parse_types.specs.declared.looks.Row.TheVariants.{Alone, Factors, Arguments}
 use Rattle.ml_parse_types.specs.declared.looks.After.{After}
-use Rattle.ml_parse_types.specs.declared.looks.After.TheVariants.{Goes, Ends, Fails}
+use Rattle.ml_parse_types.specs.declared.looks.After.TheVariants.{Goes, Ends}
 use Rattle.ml_parse_types.specs.declared.looks.TypeStart.{TypeStart}
 use Rattle.ml_parse_types.specs.declared.looks.TypeStart.TheVariants.{Variable, Named, Group}
 use Rattle.ml_parse_types.specs.declared.words.WordStep.{WordStep}

@@ -1,9 +1,7 @@
 ghost use Rattle.std.specs.Prelude.{◌≡◌, drop, IfOk, IfErr};
-ghost use Rattle.ml_cursor.specs.Fronts.{front};
 ghost use Rattle.ml_cursor.specs.Says.{Says};
-ghost use Rattle.ml_parse_types.specs.declared.looks.Row.TheVariants.{Alone, Factors};
 ghost use Rattle.ml_parse_types.specs.declared.looks.VarsStart.TheVariants.{OneVar};
-ghost use Rattle.ml_parse_types.specs.Types.{got, ReadsType};
+ghost use Rattle.ml_parse_types.specs.Types.{got};
 ghost use Rattle.ml_parse_types.specs.Decls.{ReadsItems, ReadsVar, var_behind, VarsBy, ReadsVars, ReadsArg, arg_behind, ReadsArgs, ReadsCon, con_behind, ReadsField, field_behind, ReadsBody, ReadsDecl, ReadsDecls, decl_behind};
 ghost use Rattle.ml_parse_types.specs.Readers.{IsNone};
 
@@ -14,7 +12,7 @@ use crate::looks::{
 use crate::make::make_arg;
 use crate::types::read_type;
 use crate::words::read_words;
-use ml_cursor::{Front, ParseErr, front_at, pass, refusal_at, skip, span_at, take};
+use ml_cursor::{Front, ParseErr, pass, refusal_at, skip, span_at, take};
 use ml_lexer::Token;
 use ml_tree::{Arg, ConDecl, Decl, DeclBody, FieldDecl};
 use oxml_base::{Items, Span};

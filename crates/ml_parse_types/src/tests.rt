@@ -4,9 +4,7 @@
 //! A tree is written with the bytes of each part: `'0-2` a variable, `t0-8:4-8(..)` a type of the name at
 //! 4-8 with its arguments, `*0-9(..)` a product, `>0-9(.., ..)` an arrow. Words stand before their type.
 
-ghost use Rattle.std.specs.Prelude.{◌≤◌, length};
-
-use crate::{Row, read_decls, read_type, read_words};
+use crate::{Row, read_decls, read_type};
 use ml_cursor::ParseErr;
 use ml_lexer::{Token, lex};
 use ml_tree::{Aff, Arg, ConDecl, Decl, DeclBody, FieldDecl, Loc, TyExpr, TyKind, Uni, Words};

@@ -9,7 +9,7 @@ ghost use Rattle.ml_parse_types.specs.Readers.{IsFound, IsDeep, IsNone, ReadsAto
 use crate::looks::{After, Row, TypeStart, behind_part, is_arrow, is_name, type_start};
 use crate::make::{make_applied, make_arg, make_arrow, make_postfix, make_tuple, make_variable};
 use crate::words::{no_words, read_words};
-use ml_cursor::{Front, ParseErr, extent, front_at, pass, refusal_at, skip, span_at, stands};
+use ml_cursor::{ParseErr, extent, pass, refusal_at, skip, span_at};
 use ml_lexer::Token;
 use ml_tree::{Arg, TyExpr, Words};
 use oxml_base::{Items, Span};

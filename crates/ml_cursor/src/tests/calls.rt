@@ -69,7 +69,10 @@ fn each_call(rt: HostRuntime) -> Result<(), Fail> {
     let list = tokens_of(rt.alloc(), "let x = 'c' + 12")?;
     let tokens = list.as_slice();
     let mut at = 0;
-    assert_eq!(&rt; take(tokens, &mut at, Front::Let), Ok(Span { start: 0, end: 3 }));
+    assert_eq!(&rt;
+        take(tokens, &mut at, Front::Let),
+        Ok(Span { start: 0, end: 3 })
+    );
     assert!(&rt; !accept(tokens, &mut at, Front::Upper));
     assert!(&rt; accept(tokens, &mut at, Front::Lower));
     assert_eq!(&rt; span_at(tokens, at), Span { start: 6, end: 7 });

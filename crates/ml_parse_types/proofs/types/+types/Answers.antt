@@ -1,4 +1,4 @@
-use Rattle.std.proofs.Common.{◌≡◌, ◌≤◌, ap, ◌∙◌, drop, arith}
+use Rattle.std.proofs.Common.{ap, ◌∙◌, drop, arith}
 use Rattle.oxml_base.specs.declared.span.Span.{Span}
 use Rattle.ml_parse_types.specs.Looks.{no_words}
 use Rattle.ml_parse_types.specs.Types.{read, an_arg, an_arrow}
