@@ -3,12 +3,12 @@ use Rattle.std.proofs.Common.{ℕ, ◌<◌, ◌≤◌, Bool, List, Option, arith
 use Rattle.ml_lexer.specs.declared.token.Token.{Token}
 use Rattle.ml_cursor.specs.declared.front.Front.{Front}
 use Rattle.ml_tree.specs.declared.expr.Expr.{Expr}
-use Rattle.ml_parser.specs.declared.looks.AtomLead.{AtomLead}
-use Rattle.ml_parser.specs.declared.looks.Suffix.{Suffix}
-use Rattle.ml_parser.specs.declared.looks.Lead.{Lead}
-use Rattle.ml_parser.specs.declared.looks.Joint.{Joint}
-use Rattle.ml_parser.specs.declared.looks.ListKind.{ListKind}
-use Rattle.ml_parser.specs.Grammar.{Part, Reads, AtomBy, SuffixBy, ListedBy, LevelBy, OperandBy, ConBy, an_atom, a_simple, an_operand, a_level, a_list_of, a_leaf, a_text, a_paren, a_typed, a_begin, a_list, a_record, no_suffix, a_field, an_index, alone, several, no_operator, to_left, to_right, an_apply, a_constructor, a_minus, a_word, an_overwrite, a_let, a_borrow, a_match, a_function, a_fun, an_if, an_exclave, a_block, a_cell}
+use Rattle.ml_grammar.specs.declared.looks.AtomLead.{AtomLead}
+use Rattle.ml_grammar.specs.declared.looks.Suffix.{Suffix}
+use Rattle.ml_grammar.specs.declared.looks.Lead.{Lead}
+use Rattle.ml_grammar.specs.declared.looks.Joint.{Joint}
+use Rattle.ml_grammar.specs.declared.looks.ListKind.{ListKind}
+use Rattle.ml_grammar.specs.Grammar.{Part, Reads, AtomBy, SuffixBy, ListedBy, LevelBy, OperandBy, ConBy, an_atom, a_simple, an_operand, a_level, a_list_of, a_leaf, a_text, a_paren, a_typed, a_begin, a_list, a_record, no_suffix, a_field, an_index, alone, several, no_operator, to_left, to_right, an_apply, a_constructor, a_minus, a_word, an_overwrite, a_let, a_borrow, a_match, a_function, a_fun, an_if, an_exclave, a_block, a_cell}
 
 pub suffix_grows : {text : List ℕ} {l : Suffix} {ts r : List Token} {a e : Expr} {da d : ℕ} → SuffixBy text l ts a da e d r → da ≤ d
 suffix_grows no_suffix = omega arith

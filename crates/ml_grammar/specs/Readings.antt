@@ -8,15 +8,17 @@ use Rattle.ml_cursor.specs.declared.front.Front.TheVariants as F
 use Rattle.ml_cursor.specs.Fronts.{front}
 use Rattle.ml_cursor.specs.Places.{Takes}
 use Rattle.oxml_base.specs.declared.span.Span.{Span}
+use Rattle.ml_tree.specs.declared.pattern.Pat.{Pat}
+use Rattle.ml_tree.specs.declared.pattern.Param.{Param}
 use Rattle.ml_tree.specs.declared.types.TyExpr.{TyExpr}
 use Rattle.ml_tree.specs.declared.expr.Expr.{Expr}
 use Rattle.ml_tree.specs.declared.expr.ExprKind.TheVariants as E
-use Rattle.ml_parser.specs.declared.looks.Suffix.{Suffix}
-use Rattle.ml_parser.specs.declared.looks.Suffix.TheVariants as S
-use Rattle.ml_parser.specs.declared.looks.Joint.{Joint}
-use Rattle.ml_parser.specs.Looks.{is_colon, is_else, operator_at, groups_left}
-use Rattle.ml_parser.specs.Trees.{node, start_of, joined}
-use Rattle.ml_parser.specs.Grammar.{Kind, ItemOf, operators, tuple, seq, Reads, LevelBy, ElseBy, GuardBy, ResultBy, HasType, Lists}
+use Rattle.ml_grammar.specs.declared.looks.Suffix.{Suffix}
+use Rattle.ml_grammar.specs.declared.looks.Suffix.TheVariants as S
+use Rattle.ml_grammar.specs.declared.looks.Joint.{Joint}
+use Rattle.ml_grammar.specs.Looks.{is_colon, is_else, operator_at, groups_left, binds_function}
+use Rattle.ml_grammar.specs.Trees.{node, start_of, joined}
+use Rattle.ml_grammar.specs.Grammar.{Kind, ItemOf, operators, tuple, seq, Reads, LevelBy, ElseBy, GuardBy, ResultBy, TargetBy, Borrows, HasType, Lists}
 
 -- one of at most the depth that is left was read
 pub record IsRead {A : Type 0} (P : A → ℕ → List Token → Type 0) (left : ℕ) (x : A) (d : ℕ) (rest : List Token) : Type 0 where
@@ -93,3 +95,19 @@ pub data Branches (text : List ℕ) : List Token → Expr × Option Expr → ℕ
   branches : {ts us rest : List Token} {a : Expr} {o : Option Expr} {da d : ℕ} →
       Reads text tuple ts a da us → ElseBy text (is_else (front us)) us o d rest →
       Branches text ts (a, o) (max da d) rest
+
+-- all that a bind can give its value is deeper than is left
+pub record TargetsAreDeep (text : List ℕ) (ts : List Token) (left : ℕ) : Type 0 where
+  pub deep : (p : Pat) (d : ℕ) (ps : List Param) (c : ℕ) (r : List Token) → TargetBy text (binds_function ts) ts p d ps c r → left < max d c
+
+-- no `[: type] =` stands here
+pub record NoResults (ts : List Token) : Type 0 where
+  pub none : (t : Option TyExpr) (r : List Token) → Results ts t r → ⊥
+
+-- no `borrow_ y = x` stands here
+pub record NoBorrows (ts : List Token) : Type 0 where
+  pub none : (y x : Span) (r : List Token) → Borrows ts y x r → ⊥
+
+-- neither `)` nor `: type )` stands here
+pub record NotClosed (from : ℕ) (e : Expr) (ts : List Token) : Type 0 where
+  pub none : (f : Expr) (r : List Token) → ClosesParens from e ts f r → ⊥

@@ -1,5 +1,5 @@
-use Rattle.ml_parser.proofs.Unique.{same}
-use Rattle.ml_parser.proofs.laws.at_most_one_expression.Goals as goal
+use Rattle.ml_grammar.proofs.Unique.{same}
+use Rattle.ml_grammar.proofs.laws.at_most_one_expression.Goals as goal
 
 pub returns-clause-tree : goal.returns-clause-tree
 returns-clause-tree c text part ts r s e f d k a b = (same a b).tree

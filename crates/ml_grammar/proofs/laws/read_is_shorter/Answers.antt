@@ -1,6 +1,6 @@
-use Rattle.ml_parser.proofs.Growth.{positive}
-use Rattle.ml_parser.proofs.Shorter.{shorter}
-use Rattle.ml_parser.proofs.laws.read_is_shorter.Goals as goal
+use Rattle.ml_grammar.proofs.Growth.{positive}
+use Rattle.ml_grammar.proofs.Shorter.{shorter}
+use Rattle.ml_grammar.proofs.laws.read_is_shorter.Goals as goal
 
 pub returns-clause-rest : goal.returns-clause-rest
 returns-clause-rest c text part ts r e d a = shorter a

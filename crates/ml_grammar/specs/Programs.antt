@@ -8,13 +8,13 @@ use Rattle.ml_numbers.specs.Numbered.{numbered}
 use Rattle.ml_tree.specs.declared.program.Program.{Program}
 use Rattle.ml_tree.specs.declared.program.Item.{Item}
 use Rattle.ml_tree.specs.declared.program.ItemKind.TheVariants as K
-use Rattle.ml_parser.specs.declared.looks.ItemLead.{ItemLead}
-use Rattle.ml_parser.specs.declared.looks.ItemLead.TheVariants as I
-use Rattle.ml_parser.specs.Looks.{second, item_lead, behind_rec, is_rec}
-use Rattle.ml_parser.specs.Trees.{end_behind, end_of_bind}
+use Rattle.ml_grammar.specs.declared.looks.ItemLead.{ItemLead}
+use Rattle.ml_grammar.specs.declared.looks.ItemLead.TheVariants as I
+use Rattle.ml_grammar.specs.Looks.{second, item_lead, behind_rec, is_rec}
+use Rattle.ml_grammar.specs.Trees.{end_behind, end_of_bind}
 use Rattle.ml_parse_types.specs.Types.{got}
 use Rattle.ml_parse_types.specs.Decls.{ReadsDecls}
-use Rattle.ml_parser.specs.Grammar.{Lists, binds}
+use Rattle.ml_grammar.specs.Grammar.{Lists, binds}
 
 abbrev pub let_item : List Token → List Bind → Item
 let_item ts bs =
@@ -55,3 +55,13 @@ pub record Derives (text : List ℕ) (ts : List Token) (program : Program) : Typ
   pub reads : AreItems text ts items depth
   pub small : depth ≤ 1000
   pub program_is : program ≡ numbered items
+
+-- an item of at most the greatest depth was read
+pub record IsItem (text : List ℕ) (lead : ItemLead) (ts rest : List Token) (i : Item) : Type 0 where
+  pub depth : ℕ
+  pub reads : AnItemBy text lead ts i depth rest
+  pub small : depth ≤ 1000
+
+-- the tokens are no program
+pub record NoProgram (text : List ℕ) (ts : List Token) : Type 0 where
+  pub none : (p : Program) → Derives text ts p → ⊥

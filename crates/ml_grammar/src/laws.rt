@@ -4,8 +4,8 @@ ghost use Rattle.std.specs.Prelude.{◌≡◌, ◌<◌, ◌+◌, ℕ, List, leng
 ghost use Rattle.ml_lexer.specs.declared.token.Token.{Token};
 ghost use Rattle.ml_tree.specs.declared.expr.Expr.{Expr};
 ghost use Rattle.ml_tree.specs.declared.program.Program.{Program};
-ghost use Rattle.ml_parser.specs.Grammar.{Part, Reads};
-ghost use Rattle.ml_parser.specs.Programs.{Derives};
+ghost use Rattle.ml_grammar.specs.Grammar.{Part, Reads};
+ghost use Rattle.ml_grammar.specs.Programs.{Derives};
 
 /// The tokens are at most one program.
 pub fn at_most_one_program()

@@ -10,19 +10,19 @@ use Rattle.ml_tree.specs.declared.program.Program.{Program}
 use Rattle.ml_tree.specs.declared.program.Item.{Item}
 use Rattle.ml_tree.specs.declared.program.ItemKind.TheVariants as K
 use Rattle.ml_numbers.specs.Numbered.{numbered}
-use Rattle.ml_parser.specs.declared.looks.ItemLead.{ItemLead}
-use Rattle.ml_parser.specs.declared.looks.ItemLead.TheVariants as I
-use Rattle.ml_parser.specs.Looks.{item_by, item_lead, is_rec, behind_rec}
-use Rattle.ml_parser.specs.Trees.{end_behind, end_of_bind}
+use Rattle.ml_grammar.specs.declared.looks.ItemLead.{ItemLead}
+use Rattle.ml_grammar.specs.declared.looks.ItemLead.TheVariants as I
+use Rattle.ml_grammar.specs.Looks.{item_by, item_lead, is_rec, behind_rec}
+use Rattle.ml_grammar.specs.Trees.{end_behind, end_of_bind}
 use Rattle.ml_parse_types.specs.Types.{Got, got}
 use Rattle.ml_parse_types.specs.Decls.{ReadsDecls}
 use Rattle.ml_parse_types.specs.Readers.{IsNone}
 use Rattle.ml_parse_types.proofs.Unique.{same_items as same_items_of, same_decl}
-use Rattle.ml_parser.specs.Grammar.{Lists, binds}
-use Rattle.ml_parser.specs.Readings.{IsRead, AreDeep}
-use Rattle.ml_parser.specs.Programs.{let_item, types_item, AnItemBy, a_let_item, a_types_item, AnItem, ItemsBy, no_item, between, let_first, types_first, AreItems, Derives}
-use Rattle.ml_parser.proofs.Deep.{Along, along, deep_along, deep_at, never, read_as}
-use Rattle.ml_parser.proofs.Unique.{Same, same_list, made}
+use Rattle.ml_grammar.specs.Grammar.{Lists, binds}
+use Rattle.ml_grammar.specs.Readings.{IsRead, AreDeep}
+use Rattle.ml_grammar.specs.Programs.{let_item, types_item, AnItemBy, a_let_item, a_types_item, AnItem, ItemsBy, no_item, between, let_first, types_first, AreItems, Derives}
+use Rattle.ml_grammar.proofs.Deep.{Along, along, deep_along, deep_at, never, read_as}
+use Rattle.ml_grammar.proofs.Unique.{Same, same_list, made}
 
 one_decls : {ts r s : List Token} {ds es : List Decl} → ReadsDecls ts (got ds r) → ReadsDecls ts (got es s) → Same ds es 0 0 r s
 one_decls x y =
@@ -197,3 +197,8 @@ items_done {text} {start} {ts} {done} {depth} s e f = record {
   small = s.small;
   program_is = f;
 }
+
+-- the same, with their depth
+pub record ItemsUpTo (text : List ℕ) (start : List Token) (done : List Item) (ts : List Token) : Type 0 where
+  pub depth : ℕ
+  pub so_far : ItemsSoFar text start done depth ts

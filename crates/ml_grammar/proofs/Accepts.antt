@@ -5,7 +5,7 @@ use Rattle.ml_lexer.specs.declared.token.Token.{Token}
 use Rattle.ml_cursor.specs.declared.front.Front.{Front}
 use Rattle.ml_cursor.specs.declared.front.Front.TheVariants as F
 use Rattle.ml_cursor.specs.Fronts.{front}
-use Rattle.ml_parser.specs.Looks.{is_rec, is_bar, is_and, is_else, is_colon, behind_rec, behind_bar}
+use Rattle.ml_grammar.specs.Looks.{is_rec, is_bar, is_and, is_else, is_colon, behind_rec, behind_bar}
 
 not_rec : (f : Front) → f ≢ F.Rec → is_rec f ≡ false
 not_rec F.Rec n = absurd (n refl)

@@ -11,20 +11,20 @@ use Rattle.ml_tree.specs.declared.pattern.Param.{Param}
 use Rattle.ml_tree.specs.declared.expr.Expr.{Expr}
 use Rattle.ml_parse_types.proofs.Shorter.{length-drop, drop_one, type_rest}
 use Rattle.ml_parse_patterns.proofs.Shorter.{shorter as pattern_shorter, params_shorter}
-use Rattle.ml_parser.specs.declared.looks.Leaf.{Leaf}
-use Rattle.ml_parser.specs.declared.looks.Leaf.TheVariants as L
-use Rattle.ml_parser.specs.declared.looks.AtomLead.{AtomLead}
-use Rattle.ml_parser.specs.declared.looks.AtomLead.TheVariants as A
-use Rattle.ml_parser.specs.declared.looks.Suffix.{Suffix}
-use Rattle.ml_parser.specs.declared.looks.Lead.{Lead}
-use Rattle.ml_parser.specs.declared.looks.Lead.TheVariants as O
-use Rattle.ml_parser.specs.declared.looks.Joint.{Joint}
-use Rattle.ml_parser.specs.declared.looks.ListKind.{ListKind}
-use Rattle.ml_parser.specs.declared.looks.ListKind.TheVariants as Q
-use Rattle.ml_parser.specs.Looks.{atom_lead, lead, next, behind, behind_statements, behind_semi, behind_bar, behind_rec}
-use Rattle.ml_parser.specs.Trees.{width}
-use Rattle.ml_parser.specs.Grammar.{Part, Kind, ItemOf, exprs, fields, arms, binds, to_next, past, ResultBy, TargetBy, Borrows, borrows, no_result, result, function_target, pattern_target, Reads, AtomBy, SuffixBy, ListedBy, LevelBy, OperandBy, ConBy, ElseBy, GuardBy, Lists, ItemBy, an_atom, a_simple, an_operand, a_level, a_list_of, a_leaf, a_text, a_paren, a_typed, a_begin, a_list, a_record, no_suffix, a_field, an_index, alone, several, no_operator, to_left, to_right, an_apply, a_constructor, a_minus, a_word, an_overwrite, a_let, a_borrow, a_match, a_function, a_fun, an_if, an_exclave, a_block, a_cell, no_else, an_else, no_guard, a_guard, the_last, one_more, an_expression, a_set_field, a_pun, an_arm, a_bind}
-use Rattle.ml_parser.specs.Readings.{Infix, infix_of, OneSuffix, one_field, one_index}
+use Rattle.ml_grammar.specs.declared.looks.Leaf.{Leaf}
+use Rattle.ml_grammar.specs.declared.looks.Leaf.TheVariants as L
+use Rattle.ml_grammar.specs.declared.looks.AtomLead.{AtomLead}
+use Rattle.ml_grammar.specs.declared.looks.AtomLead.TheVariants as A
+use Rattle.ml_grammar.specs.declared.looks.Suffix.{Suffix}
+use Rattle.ml_grammar.specs.declared.looks.Lead.{Lead}
+use Rattle.ml_grammar.specs.declared.looks.Lead.TheVariants as O
+use Rattle.ml_grammar.specs.declared.looks.Joint.{Joint}
+use Rattle.ml_grammar.specs.declared.looks.ListKind.{ListKind}
+use Rattle.ml_grammar.specs.declared.looks.ListKind.TheVariants as Q
+use Rattle.ml_grammar.specs.Looks.{atom_lead, lead, next, behind, behind_statements, behind_semi, behind_bar, behind_rec}
+use Rattle.ml_grammar.specs.Trees.{width}
+use Rattle.ml_grammar.specs.Grammar.{Part, Kind, ItemOf, exprs, fields, arms, binds, to_next, past, ResultBy, TargetBy, Borrows, borrows, no_result, result, function_target, pattern_target, Reads, AtomBy, SuffixBy, ListedBy, LevelBy, OperandBy, ConBy, ElseBy, GuardBy, Lists, ItemBy, an_atom, a_simple, an_operand, a_level, a_list_of, a_leaf, a_text, a_paren, a_typed, a_begin, a_list, a_record, no_suffix, a_field, an_index, alone, several, no_operator, to_left, to_right, an_apply, a_constructor, a_minus, a_word, an_overwrite, a_let, a_borrow, a_match, a_function, a_fun, an_if, an_exclave, a_block, a_cell, no_else, an_else, no_guard, a_guard, the_last, one_more, an_expression, a_set_field, a_pun, an_arm, a_bind}
+use Rattle.ml_grammar.specs.Readings.{Infix, infix_of, OneSuffix, one_field, one_index}
 
 takes_rest : {w : Front} {ts r : List Token} {s : Span} → Takes w ts r s → length r ≤ length ts
 takes_rest {ts = ts} t = let e = ap length t.rest_is in let l = length-drop 1 ts in omega arith

@@ -15,12 +15,12 @@ use Rattle.ml_tree.specs.declared.expr.FieldExpr.{FieldExpr, roll-FieldExpr}
 use Rattle.ml_tree.specs.declared.expr.ExprKind.{ExprKind}
 use Rattle.ml_tree.specs.declared.expr.ExprKind.TheVariants as E
 use Rattle.ml_cursor.specs.Places.{span, first_span, int_value, char_value}
-use Rattle.ml_parser.specs.declared.looks.Leaf.{Leaf}
-use Rattle.ml_parser.specs.declared.looks.Leaf.TheVariants as L
-use Rattle.ml_parser.specs.declared.looks.Joint.{Joint}
-use Rattle.ml_parser.specs.declared.looks.Joint.TheVariants as J
-use Rattle.ml_parser.specs.declared.looks.ListKind.{ListKind}
-use Rattle.ml_parser.specs.declared.looks.ListKind.TheVariants as Q
+use Rattle.ml_grammar.specs.declared.looks.Leaf.{Leaf}
+use Rattle.ml_grammar.specs.declared.looks.Leaf.TheVariants as L
+use Rattle.ml_grammar.specs.declared.looks.Joint.{Joint}
+use Rattle.ml_grammar.specs.declared.looks.Joint.TheVariants as J
+use Rattle.ml_grammar.specs.declared.looks.ListKind.{ListKind}
+use Rattle.ml_grammar.specs.declared.looks.ListKind.TheVariants as Q
 
 abbrev pub node : ℕ → ℕ → ExprKind → Expr
 node from to kind = roll-Expr (record { id = 0; span = span from to; kind = kind })

@@ -22,19 +22,19 @@ use Rattle.ml_tree.specs.declared.expr.Bind.{Bind}
 use Rattle.ml_tree.specs.declared.expr.FieldExpr.{FieldExpr}
 use Rattle.ml_tree.specs.declared.expr.ExprKind.TheVariants as E
 use Rattle.ml_tree.specs.declared.pattern.ConName.TheVariants.{Named}
-use Rattle.ml_parser.specs.declared.looks.Leaf.{Leaf}
-use Rattle.ml_parser.specs.declared.looks.AtomLead.{AtomLead}
-use Rattle.ml_parser.specs.declared.looks.AtomLead.TheVariants as A
-use Rattle.ml_parser.specs.declared.looks.Suffix.{Suffix}
-use Rattle.ml_parser.specs.declared.looks.Suffix.TheVariants as S
-use Rattle.ml_parser.specs.declared.looks.Lead.{Lead}
-use Rattle.ml_parser.specs.declared.looks.Lead.TheVariants as O
-use Rattle.ml_parser.specs.declared.looks.Joint.{Joint}
-use Rattle.ml_parser.specs.declared.looks.Joint.TheVariants.{Pair}
-use Rattle.ml_parser.specs.declared.looks.ListKind.{ListKind}
-use Rattle.ml_parser.specs.declared.looks.ListKind.TheVariants as Q
-use Rattle.ml_parser.specs.Looks.{second, atom_lead, suffix, lead, operator_at, groups_left, loosest, goes_on, next, behind, begins_field, behind_semi, is_bar, is_and, is_rec, is_else, is_colon, behind_bar, behind_rec, binds_function}
-use Rattle.ml_parser.specs.Trees.{node, start_of, end_of, arm, bind, field, end_behind, end_of_arm, end_of_branches, width, leaf, joined, gathered, name_pattern, pun}
+use Rattle.ml_grammar.specs.declared.looks.Leaf.{Leaf}
+use Rattle.ml_grammar.specs.declared.looks.AtomLead.{AtomLead}
+use Rattle.ml_grammar.specs.declared.looks.AtomLead.TheVariants as A
+use Rattle.ml_grammar.specs.declared.looks.Suffix.{Suffix}
+use Rattle.ml_grammar.specs.declared.looks.Suffix.TheVariants as S
+use Rattle.ml_grammar.specs.declared.looks.Lead.{Lead}
+use Rattle.ml_grammar.specs.declared.looks.Lead.TheVariants as O
+use Rattle.ml_grammar.specs.declared.looks.Joint.{Joint}
+use Rattle.ml_grammar.specs.declared.looks.Joint.TheVariants.{Pair}
+use Rattle.ml_grammar.specs.declared.looks.ListKind.{ListKind}
+use Rattle.ml_grammar.specs.declared.looks.ListKind.TheVariants as Q
+use Rattle.ml_grammar.specs.Looks.{second, atom_lead, suffix, lead, operator_at, groups_left, loosest, goes_on, next, behind, begins_field, behind_semi, is_bar, is_and, is_rec, is_else, is_colon, behind_bar, behind_rec, binds_function}
+use Rattle.ml_grammar.specs.Trees.{node, start_of, end_of, arm, bind, field, end_behind, end_of_arm, end_of_branches, width, leaf, joined, gathered, name_pattern, pun}
 use Rattle.ml_parse_types.specs.declared.looks.Row.TheVariants.{Factors}
 use Rattle.ml_parse_types.specs.Types.{ReadsType, got}
 use Rattle.ml_parse_patterns.specs.declared.looks.Level.TheVariants.{Pattern}

@@ -4,7 +4,7 @@ use Rattle.ml_lexer.specs.declared.token.Token.{Token}
 use Rattle.ml_cursor.specs.declared.error.ParseErr.{ParseErr}
 use Rattle.ml_cursor.specs.declared.error.ParseErr.TheVariants.{Refused, NoMemory}
 use Rattle.ml_cursor.specs.Says.{Says}
-use Rattle.ml_parser.specs.Readings.{IsRead, AreDeep}
+use Rattle.ml_grammar.specs.Readings.{IsRead, AreDeep}
 
 -- a part that is less deep than this
 pub record Inside {A : Type 0} (P : A → ℕ → List Token → Type 0) (limit : ℕ) : Type 0 where

@@ -11,17 +11,17 @@ use Rattle.ml_tree.specs.declared.expr.Expr.{Expr}
 use Rattle.ml_tree.specs.declared.expr.Arm.{Arm}
 use Rattle.ml_tree.specs.declared.expr.Bind.{Bind}
 use Rattle.ml_tree.specs.declared.expr.ExprKind.TheVariants as E
-use Rattle.ml_parser.specs.declared.looks.Lead.{Lead}
-use Rattle.ml_parser.specs.declared.looks.Lead.TheVariants as O
-use Rattle.ml_parser.specs.declared.looks.ListKind.TheVariants as Q
-use Rattle.ml_parser.specs.Looks.{second, lead, is_rec, behind_rec, behind_bar}
-use Rattle.ml_parser.specs.Trees.{node, end_of, end_behind, end_of_arm, end_of_branches}
+use Rattle.ml_grammar.specs.declared.looks.Lead.{Lead}
+use Rattle.ml_grammar.specs.declared.looks.Lead.TheVariants as O
+use Rattle.ml_grammar.specs.declared.looks.ListKind.TheVariants as Q
+use Rattle.ml_grammar.specs.Looks.{second, lead, is_rec, behind_rec, behind_bar}
+use Rattle.ml_grammar.specs.Trees.{node, end_of, end_behind, end_of_arm, end_of_branches}
 use Rattle.ml_parse_patterns.specs.Patterns.{ReadsParams}
-use Rattle.ml_parser.specs.Grammar.{seq, operators, listed, arms, binds, Borrows, Reads, OperandBy, ConBy, Lists, an_operand, an_apply, a_constructor, a_minus, a_word, an_overwrite, a_let, a_borrow, a_match, a_function, a_fun, an_if, an_exclave}
-use Rattle.ml_parser.specs.Readings.{IsRead, AreDeep, Until, until, Behind, behind_it, Branches, branches}
-use Rattle.ml_parser.proofs.Deep.{Inside, inside, Along, along, deep_inside, deep_along, never, read_as, deep_at}
-use Rattle.ml_parser.proofs.Growth.{operand_positive}
-use Rattle.ml_parser.proofs.Unique.{same, same_list, same_takes, same_borrows, one_params}
+use Rattle.ml_grammar.specs.Grammar.{seq, operators, listed, arms, binds, Borrows, Reads, OperandBy, ConBy, Lists, an_operand, an_apply, a_constructor, a_minus, a_word, an_overwrite, a_let, a_borrow, a_match, a_function, a_fun, an_if, an_exclave}
+use Rattle.ml_grammar.specs.Readings.{IsRead, AreDeep, Until, until, Behind, behind_it, Branches, branches}
+use Rattle.ml_grammar.proofs.Deep.{Inside, inside, Along, along, deep_inside, deep_along, never, read_as, deep_at}
+use Rattle.ml_grammar.proofs.Growth.{operand_positive}
+use Rattle.ml_grammar.proofs.Unique.{same, same_list, same_takes, same_borrows, one_params}
 
 -- where nothing is left
 

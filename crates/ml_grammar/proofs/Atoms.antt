@@ -13,18 +13,18 @@ use Rattle.ml_tree.specs.declared.pattern.ConName.TheVariants.{Named}
 use Rattle.ml_tree.specs.declared.expr.Expr.{Expr}
 use Rattle.ml_tree.specs.declared.expr.FieldExpr.{FieldExpr}
 use Rattle.ml_tree.specs.declared.expr.ExprKind.TheVariants as E
-use Rattle.ml_parser.specs.declared.looks.AtomLead.{AtomLead}
-use Rattle.ml_parser.specs.declared.looks.AtomLead.TheVariants as A
-use Rattle.ml_parser.specs.declared.looks.ListKind.TheVariants as Q
-use Rattle.ml_parser.specs.declared.looks.Joint.TheVariants.{Pair}
-use Rattle.ml_parser.specs.Looks.{atom_lead, groups_left, operator_at, operator, of_level}
-use Rattle.ml_parser.specs.Trees.{node, end_of, joined, leaf, width}
-use Rattle.ml_parser.specs.declared.looks.Leaf.{Leaf}
-use Rattle.ml_parser.specs.Grammar.{atom, simple, seq, operators, exprs, fields, Reads, AtomBy, ConBy, LevelBy, Lists, to_right, an_atom, a_leaf, a_text, a_paren, a_typed, a_begin, a_list, a_record, a_block, a_cell}
-use Rattle.ml_parser.specs.Readings.{IsRead, AreDeep, Levels, ClosesParens, closes_paren, closes_typed}
-use Rattle.ml_parser.proofs.Deep.{Inside, inside, deep_inside, never, read_as, deep_at}
-use Rattle.ml_parser.proofs.Growth.{atom_positive, con_positive}
-use Rattle.ml_parser.proofs.Unique.{same, same_list, same_level, moved}
+use Rattle.ml_grammar.specs.declared.looks.AtomLead.{AtomLead}
+use Rattle.ml_grammar.specs.declared.looks.AtomLead.TheVariants as A
+use Rattle.ml_grammar.specs.declared.looks.ListKind.TheVariants as Q
+use Rattle.ml_grammar.specs.declared.looks.Joint.TheVariants.{Pair}
+use Rattle.ml_grammar.specs.Looks.{atom_lead, groups_left, operator_at, operator, of_level}
+use Rattle.ml_grammar.specs.Trees.{node, end_of, joined, leaf, width}
+use Rattle.ml_grammar.specs.declared.looks.Leaf.{Leaf}
+use Rattle.ml_grammar.specs.Grammar.{atom, simple, seq, operators, exprs, fields, Reads, AtomBy, ConBy, LevelBy, Lists, to_right, an_atom, a_leaf, a_text, a_paren, a_typed, a_begin, a_list, a_record, a_block, a_cell}
+use Rattle.ml_grammar.specs.Readings.{IsRead, AreDeep, Levels, ClosesParens, closes_paren, closes_typed}
+use Rattle.ml_grammar.proofs.Deep.{Inside, inside, deep_inside, never, read_as, deep_at}
+use Rattle.ml_grammar.proofs.Growth.{atom_positive, con_positive}
+use Rattle.ml_grammar.proofs.Unique.{same, same_list, same_level, moved}
 
 pub no_room : {text : List ℕ} {l : AtomLead} {ts : List Token} {left : ℕ} → left ≡ 0 → AreDeep (AtomBy text l ts) left
 no_room e = record { deep = λ y d r q. let i = atom_positive q in omega arith }

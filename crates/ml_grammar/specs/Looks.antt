@@ -13,19 +13,19 @@ use Rattle.ml_tree.specs.declared.words.Aff.{Aff}
 use Rattle.ml_tree.specs.declared.words.Aff.TheVariants.{Many, Once}
 use Rattle.ml_tree.specs.declared.expr.BinOp.{BinOp}
 use Rattle.ml_tree.specs.declared.expr.BinOp.TheVariants as B
-use Rattle.ml_parser.specs.declared.looks.Leaf.TheVariants as L
-use Rattle.ml_parser.specs.declared.looks.AtomLead.{AtomLead}
-use Rattle.ml_parser.specs.declared.looks.AtomLead.TheVariants as A
-use Rattle.ml_parser.specs.declared.looks.Suffix.{Suffix}
-use Rattle.ml_parser.specs.declared.looks.Suffix.TheVariants as S
-use Rattle.ml_parser.specs.declared.looks.Lead.{Lead}
-use Rattle.ml_parser.specs.declared.looks.Lead.TheVariants as O
-use Rattle.ml_parser.specs.declared.looks.Joint.{Joint}
-use Rattle.ml_parser.specs.declared.looks.Joint.TheVariants as J
-use Rattle.ml_parser.specs.declared.looks.ItemLead.{ItemLead}
-use Rattle.ml_parser.specs.declared.looks.ItemLead.TheVariants as I
-use Rattle.ml_parser.specs.declared.looks.ListKind.{ListKind}
-use Rattle.ml_parser.specs.declared.looks.ListKind.TheVariants as Q
+use Rattle.ml_grammar.specs.declared.looks.Leaf.TheVariants as L
+use Rattle.ml_grammar.specs.declared.looks.AtomLead.{AtomLead}
+use Rattle.ml_grammar.specs.declared.looks.AtomLead.TheVariants as A
+use Rattle.ml_grammar.specs.declared.looks.Suffix.{Suffix}
+use Rattle.ml_grammar.specs.declared.looks.Suffix.TheVariants as S
+use Rattle.ml_grammar.specs.declared.looks.Lead.{Lead}
+use Rattle.ml_grammar.specs.declared.looks.Lead.TheVariants as O
+use Rattle.ml_grammar.specs.declared.looks.Joint.{Joint}
+use Rattle.ml_grammar.specs.declared.looks.Joint.TheVariants as J
+use Rattle.ml_grammar.specs.declared.looks.ItemLead.{ItemLead}
+use Rattle.ml_grammar.specs.declared.looks.ItemLead.TheVariants as I
+use Rattle.ml_grammar.specs.declared.looks.ListKind.{ListKind}
+use Rattle.ml_grammar.specs.declared.looks.ListKind.TheVariants as Q
 
 -- the second and the third token
 abbrev pub second : List Token → Front

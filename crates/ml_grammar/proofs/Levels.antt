@@ -7,16 +7,16 @@ use Rattle.ml_cursor.specs.Fronts.{front}
 use Rattle.ml_cursor.specs.Places.{Takes}
 use Rattle.ml_tree.specs.declared.expr.Expr.{Expr}
 use Rattle.ml_tree.specs.declared.expr.ExprKind.TheVariants as E
-use Rattle.ml_parser.specs.declared.looks.Suffix.{Suffix}
-use Rattle.ml_parser.specs.declared.looks.Suffix.TheVariants as S
-use Rattle.ml_parser.specs.declared.looks.Joint.{Joint}
-use Rattle.ml_parser.specs.Looks.{suffix, groups_left, operator_at}
-use Rattle.ml_parser.specs.Trees.{node, start_of, joined}
-use Rattle.ml_parser.specs.Grammar.{atom, simple, seq, operators, Reads, SuffixBy, LevelBy, a_simple, a_level, no_suffix, a_field, an_index, no_operator, to_left, to_right}
-use Rattle.ml_parser.specs.Readings.{IsRead, AreDeep, Infix, infix_of, Levels, OneSuffix, one_field, one_index}
-use Rattle.ml_parser.proofs.Deep.{Inside, inside, Along, along, deep_inside, deep_along, never, read_as, deep_at}
-use Rattle.ml_parser.proofs.Growth.{suffix_grows, level_grows}
-use Rattle.ml_parser.proofs.Unique.{same, same_takes, moved}
+use Rattle.ml_grammar.specs.declared.looks.Suffix.{Suffix}
+use Rattle.ml_grammar.specs.declared.looks.Suffix.TheVariants as S
+use Rattle.ml_grammar.specs.declared.looks.Joint.{Joint}
+use Rattle.ml_grammar.specs.Looks.{suffix, groups_left, operator_at}
+use Rattle.ml_grammar.specs.Trees.{node, start_of, joined}
+use Rattle.ml_grammar.specs.Grammar.{atom, simple, seq, operators, Reads, SuffixBy, LevelBy, a_simple, a_level, no_suffix, a_field, an_index, no_operator, to_left, to_right}
+use Rattle.ml_grammar.specs.Readings.{IsRead, AreDeep, Infix, infix_of, Levels, OneSuffix, one_field, one_index}
+use Rattle.ml_grammar.proofs.Deep.{Inside, inside, Along, along, deep_inside, deep_along, never, read_as, deep_at}
+use Rattle.ml_grammar.proofs.Growth.{suffix_grows, level_grows}
+use Rattle.ml_grammar.proofs.Unique.{same, same_takes, moved}
 
 -- an operator and its second operand
 

@@ -8,13 +8,13 @@ use Rattle.ml_tree.specs.declared.pattern.Pat.{Pat}
 use Rattle.ml_tree.specs.declared.pattern.Param.{Param}
 use Rattle.ml_tree.specs.declared.types.TyExpr.{TyExpr}
 use Rattle.ml_tree.specs.declared.expr.Expr.{Expr}
-use Rattle.ml_parser.specs.declared.looks.AtomLead.{AtomLead}
-use Rattle.ml_parser.specs.declared.looks.Suffix.{Suffix}
-use Rattle.ml_parser.specs.declared.looks.Lead.{Lead}
-use Rattle.ml_parser.specs.declared.looks.Joint.{Joint}
-use Rattle.ml_parser.specs.declared.looks.ListKind.{ListKind}
-use Rattle.ml_parser.specs.Looks.{suffix, second, operator_at, groups_left, goes_on, is_else, is_colon, is_rec, behind_bar}
-use Rattle.ml_parser.specs.Trees.{node, start_of, end_of, end_behind, end_of_arm, end_of_branches, arm, bind, field, gathered, joined}
+use Rattle.ml_grammar.specs.declared.looks.AtomLead.{AtomLead}
+use Rattle.ml_grammar.specs.declared.looks.Suffix.{Suffix}
+use Rattle.ml_grammar.specs.declared.looks.Lead.{Lead}
+use Rattle.ml_grammar.specs.declared.looks.Joint.{Joint}
+use Rattle.ml_grammar.specs.declared.looks.ListKind.{ListKind}
+use Rattle.ml_grammar.specs.Looks.{suffix, second, operator_at, groups_left, goes_on, is_else, is_colon, is_rec, behind_bar}
+use Rattle.ml_grammar.specs.Trees.{node, start_of, end_of, end_behind, end_of_arm, end_of_branches, arm, bind, field, gathered, joined}
 use Rattle.ml_tree.specs.declared.pattern.ConName.TheVariants.{Named}
 use Rattle.ml_tree.specs.declared.expr.ExprKind.TheVariants as E
 use Rattle.ml_cursor.specs.Places.{first_span, Takes}
@@ -22,11 +22,11 @@ use Rattle.oxml_base.specs.declared.span.Span.{Span}
 use Rattle.ml_cursor.specs.declared.front.Front.TheVariants.{CloseParen, CloseBracket, CloseBrace, Colon, End, Lower, Equal, With}
 use Rattle.ml_parse_patterns.specs.Patterns.{ReadsParams}
 use Rattle.ml_parse_patterns.proofs.Unique.{same as same_level_pattern, same_params as same_parameters}
-use Rattle.ml_parser.specs.Grammar.{ReadsPattern, Borrows, borrows, Part, tuple, seq, operators, arms, Kind, ItemOf, HasType, ResultBy, no_result, result, TargetBy, function_target, pattern_target, Reads, AtomBy, SuffixBy, ListedBy, LevelBy, OperandBy, ConBy, ElseBy, GuardBy, Lists, ItemBy, more, to_next, past, an_atom, a_simple, an_operand, a_level, a_list_of, a_leaf, a_text, a_paren, a_typed, a_begin, a_list, a_record, no_suffix, a_field, an_index, alone, several, no_operator, to_left, to_right, an_apply, a_constructor, a_minus, a_word, an_overwrite, a_let, a_borrow, a_match, a_function, a_fun, an_if, an_exclave, a_block, a_cell, no_else, an_else, no_guard, a_guard, the_last, one_more, an_expression, a_set_field, a_pun, an_arm, a_bind}
+use Rattle.ml_grammar.specs.Grammar.{ReadsPattern, Borrows, borrows, Part, tuple, seq, operators, arms, Kind, ItemOf, HasType, ResultBy, no_result, result, TargetBy, function_target, pattern_target, Reads, AtomBy, SuffixBy, ListedBy, LevelBy, OperandBy, ConBy, ElseBy, GuardBy, Lists, ItemBy, more, to_next, past, an_atom, a_simple, an_operand, a_level, a_list_of, a_leaf, a_text, a_paren, a_typed, a_begin, a_list, a_record, no_suffix, a_field, an_index, alone, several, no_operator, to_left, to_right, an_apply, a_constructor, a_minus, a_word, an_overwrite, a_let, a_borrow, a_match, a_function, a_fun, an_if, an_exclave, a_block, a_cell, no_else, an_else, no_guard, a_guard, the_last, one_more, an_expression, a_set_field, a_pun, an_arm, a_bind}
 use Rattle.ml_parse_types.specs.Types.{Got}
 use Rattle.ml_parse_types.proofs.Unique.{same_type as one_type}
 use Rattle.ml_lexer.proofs.Unique.{one_literal}
-use Rattle.ml_parser.specs.declared.looks.Joint.TheVariants.{Pair}
+use Rattle.ml_grammar.specs.declared.looks.Joint.TheVariants.{Pair}
 
 -- the second reading is the first
 pub record Same {A : Type 0} (x y : A) (d c : ℕ) (r s : List Token) : Type 0 where

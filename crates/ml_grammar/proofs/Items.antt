@@ -13,15 +13,15 @@ use Rattle.ml_tree.specs.declared.expr.Expr.{Expr}
 use Rattle.ml_tree.specs.declared.expr.Arm.{Arm}
 use Rattle.ml_tree.specs.declared.expr.Bind.{Bind}
 use Rattle.ml_tree.specs.declared.expr.FieldExpr.{FieldExpr}
-use Rattle.ml_parser.specs.declared.looks.ListKind.{ListKind}
-use Rattle.ml_parser.specs.Looks.{goes_on, next, behind, is_else, is_colon, binds_function}
-use Rattle.ml_parser.specs.Trees.{arm, bind, field, gathered, name_pattern, pun}
+use Rattle.ml_grammar.specs.declared.looks.ListKind.{ListKind}
+use Rattle.ml_grammar.specs.Looks.{goes_on, next, behind, is_else, is_colon, binds_function}
+use Rattle.ml_grammar.specs.Trees.{arm, bind, field, gathered, name_pattern, pun}
 use Rattle.ml_parse_patterns.specs.Patterns.{ReadsParams}
-use Rattle.ml_parser.specs.Grammar.{Kind, ItemOf, exprs, fields, arms, binds, part_of, listed, tuple, seq, more, ReadsPattern, to_next, past, HasType, ResultBy, TargetBy, Reads, ListedBy, ElseBy, GuardBy, Lists, ItemBy, a_list_of, alone, several, the_last, one_more, an_expression, a_set_field, a_pun, an_arm, a_bind, no_else, an_else, no_guard, a_guard, function_target, pattern_target, no_result, result}
-use Rattle.ml_parser.specs.Readings.{IsRead, AreDeep, Until, until, Results, results, Values, values, Actions, actions, Branches, branches}
-use Rattle.ml_parser.proofs.Deep.{Inside, inside, Along, along, deep_inside, deep_along, never, read_as, deep_at}
-use Rattle.ml_parser.proofs.Growth.{listed_grows}
-use Rattle.ml_parser.proofs.Unique.{Same, same, same_item, same_guard, same_result, same_target, one_pattern, moved}
+use Rattle.ml_grammar.specs.Grammar.{Kind, ItemOf, exprs, fields, arms, binds, part_of, listed, tuple, seq, more, ReadsPattern, to_next, past, HasType, ResultBy, TargetBy, Reads, ListedBy, ElseBy, GuardBy, Lists, ItemBy, a_list_of, alone, several, the_last, one_more, an_expression, a_set_field, a_pun, an_arm, a_bind, no_else, an_else, no_guard, a_guard, function_target, pattern_target, no_result, result}
+use Rattle.ml_grammar.specs.Readings.{IsRead, AreDeep, Until, until, Results, results, Values, values, Actions, actions, Branches, branches, TargetsAreDeep}
+use Rattle.ml_grammar.proofs.Deep.{Inside, inside, Along, along, deep_inside, deep_along, never, read_as, deep_at}
+use Rattle.ml_grammar.proofs.Growth.{listed_grows}
+use Rattle.ml_grammar.proofs.Unique.{Same, same, same_item, same_guard, same_result, same_target, one_pattern, moved}
 
 true-false : {P : Type 0} → true ≡ false → P
 true-false q = cc
@@ -309,10 +309,6 @@ function_target_read {text} {ts} {us} {r} {s} {p} {ps} {d} b e f g x =
 
 pub pattern_target_read : {text : List ℕ} {ts r : List Token} {p : Pat} {d : ℕ} → binds_function ts ≡ false → ReadsPattern text ts p d r → TargetBy text (binds_function ts) ts p d [] 0 r
 pattern_target_read {text} {ts} {r} {p} {d} b x = subst (λ b. TargetBy text b ts p d [] 0 r) (sym b) (pattern_target x)
-
--- all that a bind can give its value is deeper than is left
-pub record TargetsAreDeep (text : List ℕ) (ts : List Token) (left : ℕ) : Type 0 where
-  pub deep : (p : Pat) (d : ℕ) (ps : List Param) (c : ℕ) (r : List Token) → TargetBy text (binds_function ts) ts p d ps c r → left < max d c
 
 of_function : {text : List ℕ} {ts r : List Token} {p : Pat} {ps : List Param} {d c : ℕ} → TargetBy text true ts p d ps c r → (d ≡ 1) × ReadsParams text (drop 1 ts) ps c r
 of_function (function_target x) = (refl, x)
