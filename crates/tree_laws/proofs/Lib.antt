@@ -1,0 +1,12 @@
+pub mod BareFolds
+pub mod BarePatterns
+pub mod NodeCounts
+pub mod NodeForms
+pub mod NumberedCounts
+pub mod OperatorCounts
+pub mod OperatorForms
+pub mod Programs
+pub mod Rests
+pub mod TreeCounts
+pub mod depths
+pub mod spans
