@@ -1,12 +1,13 @@
 -- How the parts of the command make its answers.
-use Rattle.std.proofs.Common.{◌≡◌, ℕ, ◌≤◌, ◌⊎◌, inl, inr, true, List, [], length, Some, refl, sym, ◌∙◌, append-nil, subst}
+use Rattle.std.proofs.Common.{◌≡◌, ℕ, ◌≤◌, ◌⊎◌, inl, inr, true, List, [], length, Some, refl, sym, ◌∙◌, append-nil, subst, arith}
 use Rattle.oxml_base.specs.declared.outside.ShelfCall.{ShelfCall}
 use Rattle.oxml_base.specs.declared.outside.ShelfCall.TheVariants.{Load, Save}
 use Rattle.oxml_base.specs.declared.refusal.Refusal.{Refusal}
 use Rattle.oxml_base.specs.Outside.{ShelfView, SinkView, Rose, SameHeld, SameBut, SameFaults, ShelfFails, HoldsMore, GainsPart}
-use Rattle.oxml_driver.specs.Build.{PrintsNothing, left_out, most_bytes}
-use Rattle.oxml_driver.specs.Command.{World, HasSource, IsLeftOut, IsTooLong, IsBuilt, Says, IsReadFault, IsLine, GainsParts, IsWriteFault, Answers, built, refused, usage, read_fault, write_fault, limit, no_memory}
-use Rattle.oxml_driver.specs.Lines.{bytes_limit_line, read_fault_line, refusal_line, write_fault_line}
+use Rattle.oxml_base.specs.declared.refusal.Limit.{Limit}
+use Rattle.oxml_driver.specs.Build.{IsRefused, Passes, bytes, tokens, most_bytes}
+use Rattle.oxml_driver.specs.Command.{World, HasSource, IsWrong, IsTooLong, IsOver, of_bytes, of_tokens, IsBuilt, Says, IsReadFault, IsLine, GainsParts, IsWriteFault, Answers, built, refused, usage, read_fault, write_fault, limit, no_memory}
+use Rattle.oxml_driver.specs.Lines.{bytes_limit_line, limit_line, read_fault_line, refusal_line, tokens_limit_line, write_fault_line}
 use Rattle.oxml_driver.specs.Said.{Said, said, unsaid, not_made, SaidUnread, tried, not_tried, AnswersBuild}
 use Rattle.oxml_driver.specs.Words.{IsBuild}
 
@@ -37,19 +38,24 @@ put_failed words old new status line is_4 held out is_line rose gains =
     })
 
 module _ (file out_name : List ℕ) (shelf shelf' : ShelfView) (err err' : SinkView) (status : ℕ) where
-  -- the name holds too many bytes
-  pub answers_limit : HoldsMore shelf file most_bytes → SameFaults shelf shelf' → SameHeld shelf shelf' → Said 5 status err err' (bytes_limit_line file) → AnswersBuild file out_name shelf shelf' err err' status
-  answers_limit more calm held (said is_5 puts) = λ words out words_are.
+  -- a limit is passed
+  answers_over : (line : List ℕ) → ((words : List (List ℕ)) (out : SinkView) → IsBuild words file out_name → IsOver words (record { shelf = shelf; out = out; err = err }) file out_name line) → SameFaults shelf shelf' → SameHeld shelf shelf' → Said 5 status err err' line → AnswersBuild file out_name shelf shelf' err err' status
+  answers_over line over calm held (said is_5 puts) = λ words out words_are.
       limit is_5 (record {
         file = file;
         out_name = out_name;
-        cause = record { words_are = words_are; holds_more = more };
+        line = line;
+        cause = over words out words_are;
         says = record { held = held; calm = calm; out = refl; err = puts };
       })
-  answers_limit more calm held (unsaid is_4 rose gains) = λ words out words_are.
-      put_failed words _ _ status (bytes_limit_line file) is_4 held refl (inr (inr (inl (file, out_name, record { words_are = words_are; holds_more = more }, refl)))) rose gains
-  answers_limit more calm held (not_made is_6 gains) = λ words out words_are.
+  answers_over line over calm held (unsaid is_4 rose gains) = λ words out words_are.
+      put_failed words _ _ status line is_4 held refl (inr (inr (inl (file, out_name, over words out words_are)))) rose gains
+  answers_over line over calm held (not_made is_6 gains) = λ words out words_are.
       no_memory is_6 (record { held = held; out = refl; err = gains })
+
+  -- the name holds too many bytes
+  pub answers_limit : HoldsMore shelf file most_bytes → SameFaults shelf shelf' → SameHeld shelf shelf' → Said 5 status err err' (bytes_limit_line file) → AnswersBuild file out_name shelf shelf' err err' status
+  answers_limit more = answers_over (bytes_limit_line file) (λ words out words_are. of_bytes (record { words_are = words_are; holds_more = more }))
 
   -- the name could not be loaded
   pub answers_unread : ShelfFails shelf shelf' Load file → SameHeld shelf shelf' → SaidUnread status err err' (read_fault_line file) → AnswersBuild file out_name shelf shelf' err err' status
@@ -78,24 +84,28 @@ module _ (file out_name : List ℕ) (shelf shelf' : ShelfView) (err err' : SinkV
         err = record { between = err; one = gains_nothing err; two = gains };
       })
 
--- the source prints nothing
-pub answers_refused : (file out_name : List ℕ) (shelf : ShelfView) (err err' : SinkView) (status : ℕ) (source : List ℕ) (refusal : Refusal) → (shelf.tells ≡ true → shelf.held file ≡ Some source) → length source ≤ most_bytes → refusal ≡ left_out → PrintsNothing source → Said 1 status err err' (refusal_line file source refusal) → AnswersBuild file out_name shelf shelf err err' status
-answers_refused file out_name shelf err err' status source refusal told short is nothing puts =
-    go (subst (λ r. Said 1 status err err' (refusal_line file source r)) is puts)
-  where
-    go : Said 1 status err err' (refusal_line file source left_out) → AnswersBuild file out_name shelf shelf err err' status
-    go (said is_1 puts) = λ words out words_are.
-        refused is_1 (record {
-          file = file;
-          out_name = out_name;
-          source = source;
-          cause = record { has_source = record { words_are = words_are; told = told }; short = short; prints_nothing = nothing };
-          says = record { held = same_held shelf; calm = same_faults shelf; out = refl; err = puts };
-        })
-    go (unsaid is_4 rose gains) = λ words out words_are.
-        put_failed words _ _ status (refusal_line file source left_out) is_4 (same_held shelf) refl (inr (inl (file, out_name, source, record { has_source = record { words_are = words_are; told = told }; short = short; prints_nothing = nothing }, refl))) rose gains
-    go (not_made is_6 gains) = λ words out words_are.
-        no_memory is_6 (record { held = same_held shelf; out = refl; err = gains })
+module _ (file out_name : List ℕ) (shelf : ShelfView) (err err' : SinkView) (status : ℕ) (source : List ℕ) (told : shelf.tells ≡ true → shelf.held file ≡ Some source) where
+  -- the source violates a rule
+  pub answers_refused : (refusal : Refusal) → IsRefused source refusal → Said 1 status err err' (refusal_line file source refusal) → AnswersBuild file out_name shelf shelf err err' status
+  answers_refused refusal why (said is_1 puts) = λ words out words_are.
+      refused is_1 (record {
+        file = file;
+        out_name = out_name;
+        source = source;
+        refusal = refusal;
+        cause = record { has_source = record { words_are = words_are; told = told }; refused = why };
+        says = record { held = same_held shelf; calm = same_faults shelf; out = refl; err = puts };
+      })
+  answers_refused refusal why (unsaid is_4 rose gains) = λ words out words_are.
+      put_failed words _ _ status (refusal_line file source refusal) is_4 (same_held shelf) refl (inr (inl (file, out_name, source, (refusal, record { has_source = record { words_are = words_are; told = told }; refused = why }, refl)))) rose gains
+  answers_refused refusal why (not_made is_6 gains) = λ words out words_are.
+      no_memory is_6 (record { held = same_held shelf; out = refl; err = gains })
+
+  -- the source, which is short, passes the limit of tokens
+  pub answers_passed : {passed : Limit} → length source ≤ most_bytes → Passes source passed → Said 5 status err err' (limit_line file passed) → AnswersBuild file out_name shelf shelf err err' status
+  answers_passed short (bytes long) = absurd (omega arith)
+  answers_passed short (tokens within many) =
+      answers_over file out_name shelf shelf err err' status (tokens_limit_line file) (λ words out words_are. of_tokens (record { has_source = record { words_are = words_are; told = told }; short = within; many = many })) (same_faults shelf) (same_held shelf)
 
 -- ---- a load that succeeded changes nothing that is seen
 
@@ -140,21 +150,26 @@ module _ (old mid : ShelfView) (held : SameHeld old mid) (calm : SameFaults old 
     unfolding before between
     source_is has = record { words_are = has.words_are; told = source_before has.told }
 
-    left_out_before : {file out_name source : List ℕ} → IsLeftOut words between file out_name source → IsLeftOut words before file out_name source
-    left_out_before left =
-        record { has_source = source_is left.has_source; short = left.short; prints_nothing = left.prints_nothing }
+    wrong_before : {file out_name source : List ℕ} {refusal : Refusal} → IsWrong words between file out_name source refusal → IsWrong words before file out_name source refusal
+    wrong_before wrong =
+        record { has_source = source_is wrong.has_source; refused = wrong.refused }
 
     too_long_before : {file out_name : List ℕ} → IsTooLong words between file out_name → IsTooLong words before file out_name
     unfolding before between
     too_long_before long =
         record { words_are = long.words_are; holds_more = long_before long.holds_more }
 
+    over_before : {file out_name line : List ℕ} → IsOver words between file out_name line → IsOver words before file out_name line
+    over_before (of_bytes long) = of_bytes (too_long_before long)
+    over_before (of_tokens many) =
+        of_tokens (record { has_source = source_is many.has_source; short = many.short; many = many.many })
+
     line_before : {line : List ℕ} → IsLine words between line → IsLine words before line
     line_before (inl misread) = inl misread
-    line_before (inr (inl (file, out_name, source, left, is))) =
-        inr (inl (file, out_name, source, left_out_before left, is))
-    line_before (inr (inr (inl (file, out_name, long, is)))) =
-        inr (inr (inl (file, out_name, too_long_before long, is)))
+    line_before (inr (inl (file, out_name, source, (refusal, wrong, is)))) =
+        inr (inl (file, out_name, source, (refusal, wrong_before wrong, is)))
+    line_before (inr (inr (inl (file, out_name, over)))) =
+        inr (inr (inl (file, out_name, over_before over)))
     line_before (inr (inr (inr none))) = inr (inr (inr none))
 
     says_after : {line : List ℕ} → Says between behind line → Says before behind line
@@ -209,12 +224,12 @@ module _ (old mid : ShelfView) (held : SameHeld old mid) (calm : SameFaults old 
     unfolding before between behind
     answers_after (built is b) = built is (built_after b)
     answers_after (refused is r) =
-        refused is (record { file = r.file; out_name = r.out_name; source = r.source; cause = left_out_before r.cause; says = says_after r.says })
+        refused is (record { file = r.file; out_name = r.out_name; source = r.source; refusal = r.refusal; cause = wrong_before r.cause; says = says_after r.says })
     answers_after (usage is u) = usage is (record { cause = u.cause; says = says_after u.says })
     answers_after (read_fault is fault) = read_fault is (read_fault_after fault)
     answers_after (write_fault is fault) = write_fault is (write_fault_after fault)
     answers_after (limit is l) =
-        limit is (record { file = l.file; out_name = l.out_name; cause = too_long_before l.cause; says = says_after l.says })
+        limit is (record { file = l.file; out_name = l.out_name; line = l.line; cause = over_before l.cause; says = says_after l.says })
     answers_after (no_memory is n) =
         no_memory is (record { held = held_after n.held; out = n.out; err = n.err })
 

@@ -1,10 +1,13 @@
 -- Where nothing fails, the words and the source decide the answer.
-use Rattle.std.proofs.Common.{◌≡◌, ℕ, ◌≤◌, ◌<◌, ◌⊎◌, inl, inr, List, length, Some, sym, ◌∙◌, ap, subst, arith}
+use Rattle.std.proofs.Common.{◌≡◌, ℕ, ◌+◌, ◌<◌, ◌⊎◌, inl, inr, List, length, Some, sym, ◌∙◌, ap, subst}
 use Rattle.oxml_base.specs.declared.outside.ShelfCall.TheVariants.{Save}
 use Rattle.oxml_base.specs.Outside.{Rose, ShelfFails}
-use Rattle.oxml_driver.specs.Build.{PrintsNothing, most_bytes}
-use Rattle.oxml_driver.specs.Command.{World, HasSource, IsMisread, IsTooLong, IsWriteFault, Answers, built, refused, usage, read_fault, write_fault, limit, no_memory, NothingFailed, TellsSource, IsDecided}
-use Rattle.oxml_driver.specs.Source.{Prints}
+use Rattle.oxml_base.specs.declared.refusal.Limit.{Limit}
+use Rattle.oxml_base.specs.declared.refusal.Limit.TheVariants.{Bytes, Tokens}
+use Rattle.oxml_base.specs.declared.refusal.Refusal.{Refusal}
+use Rattle.oxml_driver.specs.Build.{IsRefused, Passes, bytes, tokens, PrintsTexts, most_bytes}
+use Rattle.oxml_driver.specs.Command.{World, HasSource, IsMisread, IsOver, of_bytes, of_tokens, IsTooLong, IsWriteFault, Answers, built, refused, usage, read_fault, write_fault, limit, no_memory, NothingFailed, TellsSource, IsDecided}
+use Rattle.oxml_driver.proofs.TakenOnce.{accepted_or_refused, accepted_or_over, refused_or_over}
 use Rattle.oxml_driver.specs.Words.{IsBuild}
 
 -- words name one file
@@ -28,6 +31,18 @@ is_long words old file out_name told long tells =
     let bytes : more.0 ≡ told = cc in
     subst (λ l. most_bytes < length l) bytes more.2
 
+-- the limit that an answer speaks of is passed by the told source
+is_over : (words : List (List ℕ)) (old : World) (file out_name line told : List ℕ) → IsOver words old file out_name line → TellsSource words old told → (passed : Limit) × Passes told passed
+is_over words old file out_name line told (of_bytes long) tells =
+    (Bytes (most_bytes + 1), bytes (is_long words old file out_name told long tells))
+is_over words old file out_name line told (of_tokens {source} many) tells =
+    let same = same_source words old file out_name source told many.has_source tells in
+    subst (λ s. (passed : Limit) × Passes s passed) same (Tokens 200001, tokens many.short many.many)
+
+over_words : (words : List (List ℕ)) (old : World) (file out_name line : List ℕ) → IsOver words old file out_name line → IsBuild words file out_name
+over_words words old file out_name line (of_bytes long) = long.words_are
+over_words words old file out_name line (of_tokens many) = many.has_source.words_are
+
 no_write_fault : (words : List (List ℕ)) (old new : World) → NothingFailed old new → IsWriteFault words old new → ⊥
 no_write_fault words old new nothing fault = by_cause fault.cause
   where
@@ -36,33 +51,35 @@ no_write_fault words old new nothing fault = by_cause fault.cause
     by_cause (inr rose) = nothing.err rose
 
 module _ (words : List (List ℕ)) (old new : World) (status : ℕ) (nothing : NothingFailed old new) where
-  accepted_is : Answers words old new status → (source text : List ℕ) → TellsSource words old source → length source ≤ most_bytes → Prints source text → (status ≡ 0) ⊎ (status ≡ 6)
-  accepted_is (built is b) source text tells short prints = inl is
-  accepted_is (refused is r) source text tells short prints =
+  accepted_is : Answers words old new status → (source : List ℕ) (texts : List (List ℕ)) → TellsSource words old source → PrintsTexts source texts → (status ≡ 0) ⊎ (status ≡ 6)
+  accepted_is (built is b) source texts tells prints = inl is
+  accepted_is (refused is r) source texts tells prints =
       let same = same_source words old r.file r.out_name r.source source r.cause.has_source tells in
-      absurd (r.cause.prints_nothing text (subst (λ s. Prints s text) (sym same) prints))
-  accepted_is (usage is u) source text tells short prints =
+      absurd (accepted_or_refused prints (subst (λ s. IsRefused s r.refusal) same r.cause.refused))
+  accepted_is (usage is u) source texts tells prints =
       absurd (u.cause tells.file tells.out_name tells.words_are)
-  accepted_is (read_fault is f) source text tells short prints = absurd (nothing.shelf f.fails.rose)
-  accepted_is (write_fault is f) source text tells short prints =
+  accepted_is (read_fault is f) source texts tells prints = absurd (nothing.shelf f.fails.rose)
+  accepted_is (write_fault is f) source texts tells prints =
       absurd (no_write_fault words old new nothing f)
-  accepted_is (limit is l) source text tells short prints =
-      let long = is_long words old l.file l.out_name source l.cause tells in absurd (omega arith)
-  accepted_is (no_memory is n) source text tells short prints = inr is
+  accepted_is (limit is l) source texts tells prints =
+      let over = is_over words old l.file l.out_name l.line source l.cause tells in
+      absurd (accepted_or_over prints over.1)
+  accepted_is (no_memory is n) source texts tells prints = inr is
 
-  refused_is : Answers words old new status → (source : List ℕ) → TellsSource words old source → length source ≤ most_bytes → PrintsNothing source → (status ≡ 1) ⊎ (status ≡ 6)
-  refused_is (built is b) source tells short prints_nothing =
+  refused_is : Answers words old new status → (source : List ℕ) (refusal : Refusal) → TellsSource words old source → IsRefused source refusal → (status ≡ 1) ⊎ (status ≡ 6)
+  refused_is (built is b) source refusal tells why =
       let same = same_source words old b.file b.out_name b.source source b.has_source tells in
-      absurd (prints_nothing b.compiles.text (subst (λ s. Prints s b.compiles.text) same b.compiles.item))
-  refused_is (refused is r) source tells short prints_nothing = inl is
-  refused_is (usage is u) source tells short prints_nothing =
+      absurd (accepted_or_refused (subst (λ s. PrintsTexts s b.compiles.texts) same b.compiles.prints) why)
+  refused_is (refused is r) source refusal tells why = inl is
+  refused_is (usage is u) source refusal tells why =
       absurd (u.cause tells.file tells.out_name tells.words_are)
-  refused_is (read_fault is f) source tells short prints_nothing = absurd (nothing.shelf f.fails.rose)
-  refused_is (write_fault is f) source tells short prints_nothing =
+  refused_is (read_fault is f) source refusal tells why = absurd (nothing.shelf f.fails.rose)
+  refused_is (write_fault is f) source refusal tells why =
       absurd (no_write_fault words old new nothing f)
-  refused_is (limit is l) source tells short prints_nothing =
-      let long = is_long words old l.file l.out_name source l.cause tells in absurd (omega arith)
-  refused_is (no_memory is n) source tells short prints_nothing = inr is
+  refused_is (limit is l) source refusal tells why =
+      let over = is_over words old l.file l.out_name l.line source l.cause tells in
+      absurd (refused_or_over why over.1)
+  refused_is (no_memory is n) source refusal tells why = inr is
 
   misread_is : Answers words old new status → IsMisread words → (status ≡ 2) ⊎ (status ≡ 6)
   misread_is (built is b) misread = absurd (misread b.file b.out_name b.has_source.words_are)
@@ -71,28 +88,29 @@ module _ (words : List (List ℕ)) (old new : World) (status : ℕ) (nothing : N
   misread_is (usage is u) misread = inl is
   misread_is (read_fault is f) misread = absurd (misread f.file f.out_name f.words_are)
   misread_is (write_fault is f) misread = absurd (no_write_fault words old new nothing f)
-  misread_is (limit is l) misread = absurd (misread l.file l.out_name l.cause.words_are)
+  misread_is (limit is l) misread =
+      absurd (misread l.file l.out_name (over_words words old l.file l.out_name l.line l.cause))
   misread_is (no_memory is n) misread = inr is
 
-  too_long_is : Answers words old new status → (source : List ℕ) → TellsSource words old source → most_bytes < length source → (status ≡ 5) ⊎ (status ≡ 6)
-  too_long_is (built is b) source tells long =
+  over_is : Answers words old new status → (source : List ℕ) (passed : Limit) → TellsSource words old source → Passes source passed → (status ≡ 5) ⊎ (status ≡ 6)
+  over_is (built is b) source passed tells over =
       let same = same_source words old b.file b.out_name b.source source b.has_source tells in
-      let short = subst (λ s. length s ≤ most_bytes) same b.compiles.short in absurd (omega arith)
-  too_long_is (refused is r) source tells long =
+      absurd (accepted_or_over (subst (λ s. PrintsTexts s b.compiles.texts) same b.compiles.prints) over)
+  over_is (refused is r) source passed tells over =
       let same = same_source words old r.file r.out_name r.source source r.cause.has_source tells in
-      let short = subst (λ s. length s ≤ most_bytes) same r.cause.short in absurd (omega arith)
-  too_long_is (usage is u) source tells long =
+      absurd (refused_or_over (subst (λ s. IsRefused s r.refusal) same r.cause.refused) over)
+  over_is (usage is u) source passed tells over =
       absurd (u.cause tells.file tells.out_name tells.words_are)
-  too_long_is (read_fault is f) source tells long = absurd (nothing.shelf f.fails.rose)
-  too_long_is (write_fault is f) source tells long =
+  over_is (read_fault is f) source passed tells over = absurd (nothing.shelf f.fails.rose)
+  over_is (write_fault is f) source passed tells over =
       absurd (no_write_fault words old new nothing f)
-  too_long_is (limit is l) source tells long = inl is
-  too_long_is (no_memory is n) source tells long = inr is
+  over_is (limit is l) source passed tells over = inl is
+  over_is (no_memory is n) source passed tells over = inr is
 
 pub decided : (words : List (List ℕ)) (old new : World) (status : ℕ) → Answers words old new status → NothingFailed old new → IsDecided words old status
 decided words old new status answers nothing = record {
   accepted = accepted_is words old new status nothing answers;
   refused = refused_is words old new status nothing answers;
   misread = misread_is words old new status nothing answers;
-  too_long = too_long_is words old new status nothing answers;
+  over = over_is words old new status nothing answers;
 }

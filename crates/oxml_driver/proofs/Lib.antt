@@ -1,6 +1,8 @@
 mod CommandLemmas
 mod CompileLemmas
 mod DecidedLemmas
+mod FormLemmas
+mod FrontLemmas
 mod LineLemmas
 mod PrinterAnswers
 mod PrinterCode
@@ -9,5 +11,4 @@ mod PrinterLoop
 mod PrinterMemory
 mod PrinterRun
 mod PrinterTexts
-mod ReadingLemmas
-mod SourceLemmas
+mod TakenOnce

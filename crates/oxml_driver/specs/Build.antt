@@ -1,8 +1,10 @@
 -- What compiling a source comes to.
-use Rattle.std.specs.Prelude.{◌≡◌, ℕ, ◌+◌, ◌≤◌, ◌<◌, List, [], ◌∷◌, length, None, Ok}
-use Rattle.oxml_base.specs.declared.refusal.Limit.TheVariants.{Bytes}
+use Rattle.std.specs.Prelude.{◌≡◌, ℕ, ◌+◌, ◌≤◌, ◌<◌, List, length, None, Ok}
+use Rattle.oxml_base.specs.declared.refusal.Limit.{Limit as Passed}
+use Rattle.oxml_base.specs.declared.refusal.Limit.TheVariants.{Bytes, Tokens}
 use Rattle.oxml_base.specs.declared.refusal.Refusal.{Refusal}
-use Rattle.oxml_base.specs.declared.rule.Rule.TheVariants.{LeftOut}
+use Rattle.ml_tree.specs.declared.program.Program.{Program}
+use Rattle.oxml_base.specs.declared.rule.Rule.TheVariants.{LeftOut as FormLeftOut, Syntax}
 use Rattle.x64_table.specs.declared.image.Code.{Code}
 use Rattle.x64_table.specs.declared.image.Sizes.{Sizes}
 use Rattle.x64_table.specs.Agreement.{Agrees, no_excuse}
@@ -11,7 +13,8 @@ use Rattle.elf_image.specs.Load.{loaded}
 use Rattle.oxml_driver.specs.declared.compile.CompileErr.{CompileErr}
 use Rattle.oxml_driver.specs.declared.compile.CompileErr.TheVariants.{Refused, Limit, NoMemory}
 use Rattle.oxml_driver.specs.Printer.{prints, printer_of}
-use Rattle.oxml_driver.specs.Source.{Prints}
+use Rattle.oxml_driver.specs.Form.{PrintTexts, LeftOut}
+use Rattle.oxml_driver.specs.Source.{IsFaulty, IsTooMany, IsProgram, IsNoProgram, most_tokens, program_text}
 
 -- the most bytes of a source
 abbrev pub most_bytes : ℕ
@@ -28,36 +31,53 @@ pub record AreSizes (sizes : Sizes) : Type 0 where
   pub stack_low : 1_024 ≤ sizes.stack
   pub stack_high : sizes.stack ≤ 134_217_728
 
--- the bytes load to an image of these sizes that writes the text and ends, whatever the kernel answers
-pub record IsPrinter (text : List ℕ) (sizes : Sizes) (bytes : List ℕ) : Type 0 where
+-- the bytes load to an image of these sizes that writes the texts in order and ends, whatever the kernel
+-- answers
+pub record IsPrinter (texts : List (List ℕ)) (sizes : Sizes) (bytes : List ℕ) : Type 0 where
   pub code : Code
   pub loads : loaded bytes ≡ Ok (image_of code sizes)
-  pub agrees : Agrees (prints (text ∷ [])) no_excuse (image_of code sizes)
+  pub agrees : Agrees (prints texts) no_excuse (image_of code sizes)
 
--- the code that writes the text, which fits an executable
-pub record IsPrinterCode (text : List ℕ) (code : Code) : Type 0 where
-  pub is_printer : code ≡ printer_of (text ∷ [])
+-- the code that writes the texts, which fits an executable
+pub record IsPrinterCode (texts : List (List ℕ)) (code : Code) : Type 0 where
+  pub is_printer : code ≡ printer_of texts
   pub least : 1 ≤ length code.bytes
   pub most : length code.bytes ≤ 1_060_004_096
   pub literals : length code.literals ≤ 1_060_004_096
 
--- the source prints a text, and the bytes are an executable that does just that
-pub record Compiles (source : List ℕ) (sizes : Sizes) (bytes : List ℕ) : Type 0 where
+-- the source is within the limit of bytes, and the items of its file print these texts
+pub record PrintsTexts (source : List ℕ) (texts : List (List ℕ)) : Type 0 where
   pub short : length source ≤ most_bytes
-  pub text : List ℕ
-  pub item : Prints source text
-  pub image : IsPrinter text sizes bytes
+  pub program : Program
+  pub is_program : IsProgram source program
+  pub print : PrintTexts (program_text source) (length source) program.items texts
 
--- the refusal of each source that prints no text
-abbrev pub left_out : Refusal
-left_out = record { rule = LeftOut; span = record { start = 0; end = 0 } }
+-- the items of the source's file print texts, and the bytes are an executable that does just that
+pub record Compiles (source : List ℕ) (sizes : Sizes) (bytes : List ℕ) : Type 0 where
+  pub texts : List (List ℕ)
+  pub prints : PrintsTexts source texts
+  pub image : IsPrinter texts sizes bytes
 
--- no text is printed
-abbrev pub PrintsNothing : List ℕ → Type 0
-PrintsNothing source = (text : List ℕ) → Prints source text → ⊥
+-- the rule that a source of so many bytes violates, the first in the order of the compiler: a lexical
+-- fault; where the tokens have no tree, the syntax; where they have one, a form that is left out
+pub data Violates (source : List ℕ) : Refusal → Type 0 where
+  lexical : {refusal : Refusal} → IsFaulty source refusal → Violates source refusal
+  syntax_error : {refusal : Refusal} → refusal.rule ≡ Syntax → IsNoProgram source → Violates source refusal
+  form : {refusal : Refusal} {program : Program} → refusal.rule ≡ FormLeftOut → IsProgram source program →
+      LeftOut (program_text source) (length source) program.items refusal.span → Violates source refusal
+
+-- the source is within the limit of bytes and violates a rule
+pub record IsRefused (source : List ℕ) (refusal : Refusal) : Type 0 where
+  pub short : length source ≤ most_bytes
+  pub violates : Violates source refusal
+
+-- the limit that a source passes, the first in the order of the compiler
+pub data Passes (source : List ℕ) : Passed → Type 0 where
+  bytes : most_bytes < length source → Passes source (Bytes (most_bytes + 1))
+  tokens : length source ≤ most_bytes → IsTooMany source → Passes source (Tokens (most_tokens + 1))
 
 -- why a source is not compiled
 abbrev pub NotCompiled : List ℕ → CompileErr → Type 0
-NotCompiled source (Refused refusal) = (length source ≤ most_bytes) × (refusal ≡ left_out) × PrintsNothing source
-NotCompiled source (Limit limit span) = (most_bytes < length source) × (limit ≡ Bytes (most_bytes + 1)) × (span ≡ None)
+NotCompiled source (Refused refusal) = IsRefused source refusal
+NotCompiled source (Limit limit span) = Passes source limit × (span ≡ None)
 NotCompiled source NoMemory = Unit {0}

@@ -1,10 +1,12 @@
 -- What the command comes to: each status has its cause, and says what stands behind it.
-use Rattle.std.specs.Prelude.{◌≡◌, ◌⊎◌, ℕ, true, Some, List, [], length, ◌≤◌, ◌<◌}
+use Rattle.std.specs.Prelude.{◌≡◌, ◌⊎◌, ℕ, true, Some, List, [], length, ◌≤◌}
 use Rattle.oxml_base.specs.declared.outside.ShelfCall.TheVariants.{Load, Save}
 use Rattle.oxml_base.specs.Outside.{ShelfView, SinkView, Rose, SameHeld, SameBut, SameFaults, ShelfFails, HoldsMore, GainsPart, Puts}
-use Rattle.oxml_driver.specs.Build.{Compiles, PrintsNothing, default_sizes, left_out, most_bytes}
-use Rattle.oxml_driver.specs.Lines.{usage_line, write_fault_line, no_memory_line, read_fault_line, bytes_limit_line, refusal_line}
-use Rattle.oxml_driver.specs.Source.{Prints}
+use Rattle.oxml_base.specs.declared.refusal.Limit.{Limit}
+use Rattle.oxml_base.specs.declared.refusal.Refusal.{Refusal}
+use Rattle.oxml_driver.specs.Build.{Compiles, IsRefused, Passes, PrintsTexts, default_sizes, most_bytes}
+use Rattle.oxml_driver.specs.Lines.{usage_line, write_fault_line, no_memory_line, read_fault_line, bytes_limit_line, refusal_line, tokens_limit_line}
+use Rattle.oxml_driver.specs.Source.{IsTooMany}
 use Rattle.oxml_driver.specs.Words.{IsBuild}
 
 -- what is seen of the outside
@@ -22,16 +24,26 @@ pub record HasSource (words : List (List ℕ)) (world : World) (file out source 
   pub words_are : IsBuild words file out
   pub told : world.shelf.tells ≡ true → world.shelf.held file ≡ Some source
 
--- the source prints no text, within the limit of bytes
-pub record IsLeftOut (words : List (List ℕ)) (world : World) (file out source : List ℕ) : Type 0 where
+-- the source violates this rule, the first in the order of the compiler
+pub record IsWrong (words : List (List ℕ)) (world : World) (file out source : List ℕ) (refusal : Refusal) : Type 0 where
   pub has_source : HasSource words world file out source
-  pub short : length source ≤ most_bytes
-  pub prints_nothing : PrintsNothing source
+  pub refused : IsRefused source refusal
 
 -- the name holds too many bytes
 pub record IsTooLong (words : List (List ℕ)) (world : World) (file out : List ℕ) : Type 0 where
   pub words_are : IsBuild words file out
   pub holds_more : HoldsMore world.shelf file most_bytes
+
+-- the source has too many tokens
+pub record HasManyTokens (words : List (List ℕ)) (world : World) (file out source : List ℕ) : Type 0 where
+  pub has_source : HasSource words world file out source
+  pub short : length source ≤ most_bytes
+  pub many : IsTooMany source
+
+-- a limit is passed, with this line
+pub data IsOver (words : List (List ℕ)) (world : World) (file out : List ℕ) : List ℕ → Type 0 where
+  of_bytes : IsTooLong words world file out → IsOver words world file out (bytes_limit_line file)
+  of_tokens : {source : List ℕ} → HasManyTokens words world file out source → IsOver words world file out (tokens_limit_line file)
 
 -- ---- the answers
 
@@ -57,13 +69,14 @@ pub record Says (old new : World) (line : List ℕ) : Type 0 where
   pub out : new.out ≡ old.out
   pub err : Puts old.err new.err line
 
--- status 1: the line names the rule
-pub record IsRefused (words : List (List ℕ)) (old new : World) : Type 0 where
+-- status 1: the line names the rule and its place
+pub record SaysRule (words : List (List ℕ)) (old new : World) : Type 0 where
   pub file : List ℕ
   pub out_name : List ℕ
   pub source : List ℕ
-  pub cause : IsLeftOut words old file out_name source
-  pub says : Says old new (refusal_line file source left_out)
+  pub refusal : Refusal
+  pub cause : IsWrong words old file out_name source refusal
+  pub says : Says old new (refusal_line file source refusal)
 
 -- status 2
 pub record IsUsage (words : List (List ℕ)) (old new : World) : Type 0 where
@@ -84,8 +97,8 @@ pub record IsReadFault (words : List (List ℕ)) (old new : World) : Type 0 wher
 abbrev pub IsLine : List (List ℕ) → World → List ℕ → Type 0
 IsLine words world line =
     (IsMisread words × (line ≡ usage_line))
-    ⊎ (((file out source : List ℕ) × IsLeftOut words world file out source × (line ≡ refusal_line file source left_out))
-    ⊎ (((file out : List ℕ) × IsTooLong words world file out × (line ≡ bytes_limit_line file))
+    ⊎ (((file out source : List ℕ) × ((refusal : Refusal) × IsWrong words world file out source refusal × (line ≡ refusal_line file source refusal)))
+    ⊎ (((file out : List ℕ) × IsOver words world file out line)
     ⊎ (line ≡ [])))
 
 -- first a part of one line, and behind it a part of another
@@ -105,11 +118,12 @@ pub record IsWriteFault (words : List (List ℕ)) (old new : World) : Type 0 whe
   pub err : GainsParts old.err new.err line write_fault_line
 
 -- status 5: the line names the limit
-pub record IsLimit (words : List (List ℕ)) (old new : World) : Type 0 where
+pub record SaysLimit (words : List (List ℕ)) (old new : World) : Type 0 where
   pub file : List ℕ
   pub out_name : List ℕ
-  pub cause : IsTooLong words old file out_name
-  pub says : Says old new (bytes_limit_line file)
+  pub line : List ℕ
+  pub cause : IsOver words old file out_name line
+  pub says : Says old new line
 
 -- status 6, want of memory, is free
 pub record IsNoMemory (old new : World) : Type 0 where
@@ -120,11 +134,11 @@ pub record IsNoMemory (old new : World) : Type 0 where
 -- the command answers a status, each with its cause and with what stands behind it
 pub data Answers (words : List (List ℕ)) (old new : World) (status : ℕ) : Type 0 where
   built : status ≡ 0 → IsBuilt words old new → Answers words old new status
-  refused : status ≡ 1 → IsRefused words old new → Answers words old new status
+  refused : status ≡ 1 → SaysRule words old new → Answers words old new status
   usage : status ≡ 2 → IsUsage words old new → Answers words old new status
   read_fault : status ≡ 3 → IsReadFault words old new → Answers words old new status
   write_fault : status ≡ 4 → IsWriteFault words old new → Answers words old new status
-  limit : status ≡ 5 → IsLimit words old new → Answers words old new status
+  limit : status ≡ 5 → SaysLimit words old new → Answers words old new status
   no_memory : status ≡ 6 → IsNoMemory old new → Answers words old new status
 
 -- ---- which answer comes where nothing fails
@@ -144,7 +158,7 @@ pub record TellsSource (words : List (List ℕ)) (world : World) (source : List 
 
 -- the words and the source decide the answer, unless memory is wanting
 pub record IsDecided (words : List (List ℕ)) (old : World) (status : ℕ) : Type 0 where
-  pub accepted : (source text : List ℕ) → TellsSource words old source → length source ≤ most_bytes → Prints source text → (status ≡ 0) ⊎ (status ≡ 6)
-  pub refused : (source : List ℕ) → TellsSource words old source → length source ≤ most_bytes → PrintsNothing source → (status ≡ 1) ⊎ (status ≡ 6)
+  pub accepted : (source : List ℕ) (texts : List (List ℕ)) → TellsSource words old source → PrintsTexts source texts → (status ≡ 0) ⊎ (status ≡ 6)
+  pub refused : (source : List ℕ) (refusal : Refusal) → TellsSource words old source → IsRefused source refusal → (status ≡ 1) ⊎ (status ≡ 6)
   pub misread : IsMisread words → (status ≡ 2) ⊎ (status ≡ 6)
-  pub too_long : (source : List ℕ) → TellsSource words old source → most_bytes < length source → (status ≡ 5) ⊎ (status ≡ 6)
+  pub over : (source : List ℕ) (passed : Limit) → TellsSource words old source → Passes source passed → (status ≡ 5) ⊎ (status ≡ 6)

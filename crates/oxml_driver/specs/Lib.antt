@@ -1,8 +1,9 @@
 pub mod Build
 pub mod Command
+pub mod Form
 pub mod Lines
+pub mod Prelude
 pub mod Printer
-pub mod Reading
 pub mod Said
 pub mod Source
 pub mod Words

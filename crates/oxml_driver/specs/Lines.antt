@@ -1,5 +1,7 @@
 -- The lines that the command writes, each with its line feed.
 use Rattle.std.specs.Prelude.{ℕ, List, ◌++◌, take, codes, decimal}
+use Rattle.oxml_base.specs.declared.refusal.Limit.{Limit}
+use Rattle.oxml_base.specs.declared.refusal.Limit.TheVariants.{Tokens}
 use Rattle.oxml_base.specs.declared.refusal.Refusal.{Refusal}
 use Rattle.oxml_base.specs.LineColumn.{line_behind, column_behind}
 use Rattle.oxml_base.specs.Rules.{rule_number, rule_text}
@@ -19,12 +21,21 @@ read_fault_line file = codes "oxml: read fault: " ++ (file ++ codes "\n")
 abbrev pub bytes_limit_line : List ℕ → List ℕ
 bytes_limit_line file = file ++ codes ": limit bytes 1048577\n"
 
+abbrev pub tokens_limit_line : List ℕ → List ℕ
+tokens_limit_line file = file ++ codes ": limit tokens 200001\n"
+
+-- the line of a limit
+abbrev pub limit_line : List ℕ → Limit → List ℕ
+limit_line file (Tokens n) = tokens_limit_line file
+limit_line file limit = bytes_limit_line file
+
 -- a rule by its number and text, with a line and a column
 abbrev pub placed_line : List ℕ → ℕ → ℕ → ℕ → List ℕ → List ℕ
 placed_line file line column number text =
     file ++ (codes ":" ++ (decimal line ++ (codes ":" ++ (decimal column ++ (codes ": rule " ++ (decimal number ++ (codes ": " ++ (text ++ codes "\n"))))))))
 
--- the rule that a source violates, with the line and the column of the place
+-- the rule that a source violates, with the line and the column of the place, or of the source's end where
+-- the place is behind it
 abbrev pub refusal_line : List ℕ → List ℕ → Refusal → List ℕ
 refusal_line file source refusal =
     placed_line file (line_behind (take refusal.span.start source)) (column_behind (take refusal.span.start source)) (rule_number refusal.rule) (rule_text refusal.rule)

@@ -9,7 +9,7 @@ ghost use Rattle.oxml_driver.specs.Words.{texts_of};
 
 use crate::compile::{CompileErr, MOST_BYTES, compile};
 use crate::lines::{
-    NO_MEMORY, USAGE, WRITE_FAULT, bytes_limit_line, read_fault_line, refusal_line,
+    NO_MEMORY, USAGE, WRITE_FAULT, bytes_limit_line, limit_line, read_fault_line, refusal_line,
 };
 use crate::words::Build;
 use oxml_base::{Failed, LoadErr, SaveErr, Shelf, Sink};
@@ -98,7 +98,9 @@ fn finish<S: Shelf, E: Sink>(
             1,
             refusal_line(alloc, build.file, source, refusal),
         ),
-        Err(CompileErr::Limit(_, _)) => say_made(err, 5, bytes_limit_line(alloc, build.file)),
+        Err(CompileErr::Limit(limit, _)) => {
+            say_made(err, 5, limit_line(alloc, build.file, limit))
+        }
         Err(CompileErr::NoMemory) => want_of_memory(err),
     }
 }

@@ -2,9 +2,9 @@
 ghost use Rattle.std.specs.Prelude.{◌≡◌, ◌≤◌, IfOk, length, take, string_bytes};
 ghost use Rattle.oxml_base.specs.LineColumn.{line_behind, column_behind};
 ghost use Rattle.oxml_driver.specs.Build.{most_bytes};
-ghost use Rattle.oxml_driver.specs.Lines.{bytes_limit_line, placed_line, read_fault_line, refusal_line};
+ghost use Rattle.oxml_driver.specs.Lines.{bytes_limit_line, limit_line, placed_line, read_fault_line, refusal_line, tokens_limit_line};
 
-use oxml_base::{Refusal, line_col};
+use oxml_base::{Limit, Refusal, line_col};
 use std::alloc::{AllocError, Global};
 
 /// Of words that have no reading as a command.
@@ -28,7 +28,24 @@ pub fn bytes_limit_line(alloc: Global, file: &str) -> Result<String, AllocError>
     format!(in alloc; "{file}: limit bytes 1048577\n")
 }
 
-/// The line of a rule that a source violates.
+/// The line of a source with too many tokens.
+pub fn tokens_limit_line(alloc: Global, file: &str) -> Result<String, AllocError>
+    ensures { IfOk result (λ line. string_bytes line ≡ tokens_limit_line file.now) }
+{
+    format!(in alloc; "{file}: limit tokens 200001\n")
+}
+
+/// The line of a limit that a source passes.
+pub fn limit_line(alloc: Global, file: &str, limit: Limit) -> Result<String, AllocError>
+    ensures { IfOk result (λ line. string_bytes line ≡ limit_line file.now limit) }
+{
+    match limit {
+        Limit::Tokens(_) => tokens_limit_line(alloc, file),
+        _ => bytes_limit_line(alloc, file),
+    }
+}
+
+/// The line of a rule that a source violates. A place behind the source's end is shown as its end.
 pub fn refusal_line(
     alloc: Global,
     file: &str,
@@ -36,10 +53,9 @@ pub fn refusal_line(
     refusal: Refusal,
 ) -> Result<String, AllocError>
     requires short { length source.now ≤ most_bytes }
-    requires within { refusal.span.start ≤ length source.now }
     ensures { IfOk result (λ line. string_bytes line ≡ refusal_line file.now source.now refusal) }
 {
-    let (line, column) = place_of(source, refusal.span.start);
+    let (line, column) = place_of(source, place_in(source, refusal.span.start));
     placed_line(
         alloc,
         file,
@@ -48,6 +64,18 @@ pub fn refusal_line(
         refusal.rule.number(),
         refusal.rule.text(),
     )
+}
+
+/// The place in a source, or its end where the place is behind it.
+fn place_in(source: &[u8], at: u32) -> u32
+    requires short { length source.now ≤ most_bytes }
+    ensures within { result ≤ length source.now }
+    ensures same { take result source.now ≡ take at source.now }
+{
+    if at as usize <= source.len() {
+        return at;
+    }
+    source.len() as u32
 }
 
 /// The line and the column of a place in a source, counted from 1.

@@ -3,9 +3,10 @@
 
 mod command;
 mod compile;
+mod form;
+mod front;
 mod lines;
 mod printer;
-mod source;
 #[cfg(test)]
 mod tests;
 mod words;

@@ -15,30 +15,37 @@ const SMALL: Sizes = Sizes {
     stack: 1_024,
 };
 
-/// The bytes that an executable writes on channel 1 under these answers, and its status. Each write
-/// is to ask for all that is left.
-fn run(
-    rt: &impl Abort,
-    alloc: Global,
-    file: &[u8],
-    text: &[u8],
-    answers: &[i64],
-) -> Result<(Vec<u8>, u8), Fail> {
+/// What an executable did: the bytes that it wrote on channel 1, how many it asked for in each write,
+/// and its status.
+#[derive(Drop)]
+struct Ran {
+    written: Vec<u8>,
+    asked: Vec<u64>,
+    status: u8,
+}
+
+/// Runs an executable under these answers; past their end each write takes all its bytes.
+fn run(rt: &impl Abort, alloc: Global, file: &[u8], answers: &[i64]) -> Result<Ran, Fail> {
     let image = load(alloc, file).expect(rt, "an image");
     let mut machine = Machine::new(alloc, &image)?;
     let mut written = Vec::new(alloc);
-    let mut asked = 0usize;
+    let mut asked = Vec::new(alloc);
     for _ in 0..10_000u32 {
         match machine.step() {
             Stepped::Went => {}
-            Stepped::Exit(status) => return Ok((written, status)),
+            Stepped::Exit(status) => {
+                return Ok(Ran {
+                    written,
+                    asked,
+                    status,
+                });
+            }
             Stepped::Fault(at) => panic!(rt; "a fault at {at:x}"),
             Stepped::Asked { channel, at, len } => {
                 assert_eq!(rt; channel, 1);
-                assert!(rt; written.len() <= text.len());
-                assert_eq!(rt; len, (text.len() - written.len()) as u64);
                 assert!(rt; len <= 1_000_000);
-                let answer = answers.get(asked).copied().unwrap_or(len as i64);
+                let answer = answers.get(asked.len()).copied().unwrap_or(len as i64);
+                asked.push(len)?;
                 let taken = if answer > 0 && answer <= len as i64 {
                     answer as u64
                 } else {
@@ -49,7 +56,6 @@ fn run(
                     written.push(machine.byte(place).expect(rt, "a byte"))?;
                 }
                 machine.answer(answer);
-                asked = asked.saturating_add(1);
             }
         }
     }
@@ -59,70 +65,207 @@ fn run(
 #[test]
 fn an_executable_writes_its_text_whatever_the_kernel_answers(rt: HostRuntime) -> Result<(), Fail> {
     let file = compile(rt.alloc(), HI, SMALL).expect(&rt, "an executable");
-    let cases: [(&[i64], &[u8], u8); 8] = [
-        (&[], b"hi\n", 0),
-        (&[1, -4, 2], b"hi\n", 0),
-        (&[-4, -4, 3], b"hi\n", 0),
-        (&[0], b"", 104),
-        (&[1, -5], b"h", 104),
-        (&[4], b"", 104),
-        (&[2, 2], b"hi", 104),
-        (&[i64::MIN], b"", 104),
+    let cases: [(&[i64], &[u64], &[u8], u8); 8] = [
+        (&[], &[3], b"hi\n", 0),
+        (&[1, -4, 2], &[3, 2, 2], b"hi\n", 0),
+        (&[-4, -4, 3], &[3, 3, 3], b"hi\n", 0),
+        (&[0], &[3], b"", 104),
+        (&[1, -5], &[3, 2], b"h", 104),
+        (&[4], &[3], b"", 104),
+        (&[2, 2], &[3, 1], b"hi", 104),
+        (&[i64::MIN], &[3], b"", 104),
     ];
-    for (answers, bytes, status) in cases {
-        let (written, ended) = run(&rt, rt.alloc(), file.as_slice(), b"hi\n", answers)?;
-        assert_eq!(rt; written.as_slice(), bytes);
-        assert_eq!(rt; ended, status);
+    for (answers, asked, bytes, status) in cases {
+        let ran = run(&rt, rt.alloc(), file.as_slice(), answers)?;
+        assert_eq!(rt; ran.written.as_slice(), bytes);
+        assert_eq!(rt; ran.asked.as_slice(), asked);
+        assert_eq!(rt; ran.status, status);
     }
     Ok(())
 }
 
 #[test]
-fn sources_are_compiled_or_refused(rt: HostRuntime) -> Result<(), Fail> {
-    let printed: [(&[u8], &[u8]); 4] = [
-        (b"let () = print_string \"\"", b""),
-        (b" \t\nlet () = print_string \"a\" \n\t", b"a"),
-        (b"let () = print_string \"\\n !~\\n\"", b"\n !~\n"),
+fn files_of_printing_items_are_compiled(rt: HostRuntime) -> Result<(), Fail> {
+    let printed: [(&[u8], &[u64], &[u8]); 9] = [
+        (b"", &[], b""),
+        (b" ;; (* \"*)\" *) ;;\r\n", &[], b""),
+        (b"let () = print_string \"\"", &[], b""),
+        (b" \t\nlet () = print_string \"a\" \n\t", &[1], b"a"),
+        (
+            b"let()=print_string\"\\065\\x42\\o103\\t\\n\\\\\"",
+            &[6],
+            b"ABC\t\n\\",
+        ),
+        (b"let () = print_string \"a\nb\"", &[3], b"a\nb"),
+        (
+            b"let () = print_string \"ab\" let () = print_string \"\" let () = print_string \"c\"",
+            &[2, 1],
+            b"abc",
+        ),
+        (
+            b"let () = print_string \"b\";;let () = print_string \"a\";;",
+            &[1, 1],
+            b"ba",
+        ),
         (
             b"let () = print_string \"let () = 1;; (* *)\"",
+            &[18],
             b"let () = 1;; (* *)",
         ),
     ];
-    for (source, text) in printed {
+    for (source, asked, text) in printed {
         let file = compile(rt.alloc(), source, SMALL).expect(&rt, "an executable");
-        let (written, status) = run(&rt, rt.alloc(), file.as_slice(), text, &[])?;
-        assert_eq!(rt; written.as_slice(), text);
-        assert_eq!(rt; status, 0);
+        let ran = run(&rt, rt.alloc(), file.as_slice(), &[])?;
+        assert_eq!(rt; ran.written.as_slice(), text);
+        assert_eq!(rt; ran.asked.as_slice(), asked);
+        assert_eq!(rt; ran.status, 0);
     }
-    let left_out = CompileErr::Refused(Refusal {
-        rule: Rule::LeftOut,
-        span: Span { start: 0, end: 0 },
-    });
-    let refused: [&[u8]; 12] = [
-        b"",
-        b"let () = print_int 1",
-        b"let () = print_string \"a",
-        b"let () = print_string \"a\\t\"",
-        b"let () = print_string \"a\\\"",
-        b"let () = print_string \"a\nb\"",
-        b"let () = print_string \"\x7F\"",
-        b"let () =  print_string \"a\"",
-        b"let () = print_string\"a\"",
-        b"let () = print_string \"a\" x",
-        b"let () = print_string \"a\"\r",
-        b"let () = print_string \"a\" let () = print_string \"b\"",
+    Ok(())
+}
+
+fn refused(rule: Rule, start: u32, end: u32) -> Option<CompileErr> {
+    Some(CompileErr::Refused(Refusal {
+        rule,
+        span: Span { start, end },
+    }))
+}
+
+#[test]
+fn the_first_refusal_in_order_is_named(rt: HostRuntime) -> Result<(), Fail> {
+    let cases: [(&[u8], Rule, u32, u32); 26] = [
+        // lexical faults come before all others
+        (b"let () = () (* cut", Rule::OpenComment, 12, 14),
+        (
+            b"let () = print_int 4611686018427387904",
+            Rule::BadNumber,
+            19,
+            38,
+        ),
+        (b"let let \"", Rule::OpenText, 8, 9),
+        (b"let () = print_int 1 #", Rule::OutsideAlphabet, 21, 22),
+        (b"let () = print_string \"\\q\"", Rule::BadEscape, 23, 25),
+        (b"let () = print_string \"a", Rule::OpenText, 22, 23),
+        (b"let f x =\n  x (1 +", Rule::Syntax, 18, 18),
+        // then the syntax, before the form
+        (b"let () = print_int 1 let", Rule::Syntax, 24, 24),
+        (b"let () = print_int 1 )", Rule::Syntax, 21, 22),
+        (b"print_string \"a\"", Rule::Syntax, 0, 12),
+        // then the first item of the file that is not built
+        (b"let () = print_int 1", Rule::LeftOut, 0, 20),
+        (
+            b"let () = print_string \"a\" let x = 1 let y = 2",
+            Rule::LeftOut,
+            26,
+            35,
+        ),
+        (
+            b" type t = A;; let () = print_string \"a\"",
+            Rule::LeftOut,
+            1,
+            11,
+        ),
+        (b"let () = (print_string \"a\")", Rule::LeftOut, 0, 27),
+        (b"let () = print_string (\"a\")", Rule::LeftOut, 0, 27),
+        (b"let (()) = print_string \"a\"", Rule::LeftOut, 0, 27),
+        (b"let () : unit = print_string \"a\"", Rule::LeftOut, 0, 32),
+        (b"let f () = print_string \"a\"", Rule::LeftOut, 0, 27),
+        (b"let _ = print_string \"a\"", Rule::LeftOut, 0, 24),
+        (b"let rec () = print_string \"a\"", Rule::LeftOut, 0, 29),
+        (
+            b"let () = print_string \"a\" and () = ()",
+            Rule::LeftOut,
+            0,
+            37,
+        ),
+        (b"let () = print_string \"a\" \"b\"", Rule::LeftOut, 0, 29),
+        (b"let () = print_strinG \"a\"", Rule::LeftOut, 0, 25),
+        (b"let () = prerr_string \"a\"", Rule::LeftOut, 0, 25),
+        (b"let () = print_string 'a'", Rule::LeftOut, 0, 25),
+        (b"let () = print_string", Rule::LeftOut, 0, 21),
     ];
-    for source in refused {
-        assert_eq!(rt; compile(rt.alloc(), source, SMALL).err(), Some(left_out));
-    }
-    let limit = CompileErr::Limit(Limit::Bytes(1_048_577), None);
-    for (length, error) in [(1_048_576, left_out), (1_048_577, limit)] {
-        let blank = vec![in rt.alloc(); b' '; length]?;
+    for (source, rule, start, end) in cases {
         assert_eq!(rt;
-            compile(rt.alloc(), blank.as_slice(), SMALL).err(),
-            Some(error)
+            compile(rt.alloc(), source, SMALL).err(),
+            refused(rule, start, end)
         );
     }
+    Ok(())
+}
+
+/// `front`, so many times `open`, `middle`, so many times `close`.
+fn nested(
+    alloc: Global,
+    front: &[u8],
+    open: u8,
+    middle: &[u8],
+    close: u8,
+    times: usize,
+) -> Result<Vec<u8>, Fail> {
+    let mut source = front.to_vec(alloc)?;
+    source.extend_from_slice(vec![in alloc; open; times]?.as_slice())?;
+    source.extend_from_slice(middle)?;
+    source.extend_from_slice(vec![in alloc; close; times]?.as_slice())?;
+    Ok(source)
+}
+
+#[test]
+fn deep_sources_are_read_up_to_the_limit(rt: HostRuntime) -> Result<(), Fail> {
+    let alloc = rt.alloc();
+    let value = nested(alloc, b"let () = ", b'(', b"()", b')', 999)?;
+    let err = compile(alloc, value.as_slice(), SMALL).err();
+    assert_eq!(rt; err, refused(Rule::LeftOut, 0, 2009));
+    let named = nested(alloc, b"type t = ", b'(', b"int", b')', 999)?;
+    let err = compile(alloc, named.as_slice(), SMALL).err();
+    assert_eq!(rt; err, refused(Rule::LeftOut, 0, 2010));
+    for (front, middle) in [(b"let () = ", b"() ".as_slice()), (b"type t = ", b"int")] {
+        let deep = nested(alloc, front.as_slice(), b'(', middle, b')', 1_000)?;
+        match compile(alloc, deep.as_slice(), SMALL) {
+            Err(CompileErr::Refused(refusal)) => assert_eq!(rt; refusal.rule, Rule::Syntax),
+            _ => panic!(rt; "a source that is too deep is not refused"),
+        }
+    }
+    Ok(())
+}
+
+/// So many times a text.
+fn repeated(alloc: Global, text: &[u8], times: usize) -> Result<Vec<u8>, Fail> {
+    let mut source = Vec::new(alloc);
+    for _ in 0..times {
+        source.extend_from_slice(text)?;
+    }
+    Ok(source)
+}
+
+#[test]
+fn limits_are_named_before_what_stands_behind_them(rt: HostRuntime) -> Result<(), Fail> {
+    let alloc = rt.alloc();
+    let bytes = CompileErr::Limit(Limit::Bytes(1_048_577), None);
+    let tokens = CompileErr::Limit(Limit::Tokens(200_001), None);
+    let cases: [(&[u8], usize, Option<CompileErr>); 4] = [
+        (b" ", 1_048_576, None),
+        (b" ", 1_048_577, Some(bytes)),
+        (b";;", 200_000, None),
+        (b";;", 200_001, Some(tokens)),
+    ];
+    for (text, times, error) in cases {
+        let source = repeated(alloc, text, times)?;
+        assert_eq!(rt; compile(alloc, source.as_slice(), SMALL).err(), error);
+    }
+    let mut source = repeated(alloc, b";;", 200_001)?;
+    source.push(b'#')?;
+    assert_eq!(rt;
+        compile(alloc, source.as_slice(), SMALL).err(),
+        Some(tokens)
+    );
+    Ok(())
+}
+
+#[test]
+fn many_items_are_compiled(rt: HostRuntime) -> Result<(), Fail> {
+    let alloc = rt.alloc();
+    let source = repeated(alloc, b"let () = print_string \"a\"\n", 20_000)?;
+    let file = compile(alloc, source.as_slice(), SMALL).expect(&rt, "an executable");
+    assert!(rt; load(alloc, file.as_slice()).is_ok());
     Ok(())
 }
 
@@ -163,7 +306,7 @@ struct Case<'a> {
 
 const USAGE: &[u8] = b"usage: oxml build|check|run|sim|places|sample|sample-build\n";
 
-const CASES: [Case<'static>; 12] = [
+const CASES: [Case<'static>; 16] = [
     Case {
         words: &["build", "hi.ml", "-o", "hi"],
         fail: (&[], &[]),
@@ -181,6 +324,30 @@ const CASES: [Case<'static>; 12] = [
         fail: (&[], &[]),
         status: 1,
         err: b"a.ml:1:1: rule 25: form left out\n",
+    },
+    Case {
+        words: &["build", "number.ml", "-o", "a"],
+        fail: (&[], &[]),
+        status: 1,
+        err: b"number.ml:1:20: rule 5: bad number literal\n",
+    },
+    Case {
+        words: &["build", "comment.ml", "-o", "a"],
+        fail: (&[], &[]),
+        status: 1,
+        err: b"comment.ml:2:6: rule 2: comment is not closed\n",
+    },
+    Case {
+        words: &["build", "cut.ml", "-o", "a"],
+        fail: (&[], &[]),
+        status: 1,
+        err: b"cut.ml:2:9: rule 10: syntax\n",
+    },
+    Case {
+        words: &["build", "tokens.ml", "-o", "a"],
+        fail: (&[], &[]),
+        status: 5,
+        err: b"tokens.ml: limit tokens 200001\n",
     },
     Case {
         words: &["build", "a.ml", "-o", "a"],
@@ -242,11 +409,16 @@ const CASES: [Case<'static>; 12] = [
 fn each_status_has_its_line(rt: HostRuntime) -> Result<(), Fail> {
     let alloc = rt.alloc();
     let long = vec![in alloc; b' '; 1_048_577]?;
+    let tokens = repeated(alloc, b";;", 200_001)?;
     for case in CASES {
         let mut shelf = MemShelf::new(alloc, case.fail.0.to_vec(alloc)?);
         shelf.hold("hi.ml", HI)?;
         shelf.hold("a.ml", b"let () = print_int 1")?;
+        shelf.hold("number.ml", b"let () = print_int 4611686018427387904")?;
+        shelf.hold("comment.ml", b"let () =\n  () (* cut")?;
+        shelf.hold("cut.ml", b"let f x =\n  x (1 +")?;
         shelf.hold("long.ml", long.as_slice())?;
+        shelf.hold("tokens.ml", tokens.as_slice())?;
         let mut out = MemSink::new(alloc, 100, vec![in alloc]?)?;
         let mut err = MemSink::new(alloc, 100, case.fail.1.to_vec(alloc)?)?;
         let status = oxml(alloc, case.words, &mut shelf, &mut out, &mut err);
@@ -270,8 +442,8 @@ fn an_executable_of_the_default_sizes_runs(rt: HostRuntime) -> Result<(), Fail> 
     assert_eq!(rt; oxml(alloc, &words, &mut shelf, &mut out, &mut err), 0);
     let mut file = Vec::new(alloc);
     assert_eq!(rt; shelf.load("hi", &mut file, 10_000), Ok(()));
-    let (written, status) = run(&rt, rt.alloc(), file.as_slice(), b"hi\n", &[])?;
-    assert_eq!(rt; written.as_slice(), b"hi\n".as_slice());
-    assert_eq!(rt; status, 0);
+    let ran = run(&rt, rt.alloc(), file.as_slice(), &[])?;
+    assert_eq!(rt; ran.written.as_slice(), b"hi\n".as_slice());
+    assert_eq!(rt; ran.status, 0);
     Ok(())
 }

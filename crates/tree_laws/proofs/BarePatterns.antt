@@ -1,5 +1,5 @@
 -- What a fold over patterns that looks at no number gives is the same without the numbers.
-use Rattle.std.proofs.Common.{◌≡◌, ℕ, List, [], ◌∷◌, map, Option, Some, None, refl, sym, ap, ◌∙◌, subst}
+use Rattle.std.proofs.Common.{◌≡◌, ℕ, map, Some, None, sym, ap, ◌∙◌, subst}
 use Rattle.oxml_base.specs.declared.span.Span.{Span}
 use Rattle.ml_tree.specs.declared.types.TyExpr.{TyExpr}
 use Rattle.ml_tree.specs.declared.pattern.Pat.{Pat, ind-Pat, fold-Pat, fold-roll-Pat, map-Pat, roll-Pat}
@@ -19,7 +19,6 @@ pub record BlindPatterns {K F X : Type 0} (k : PatKind-F K F X → K) (f : Field
   pub pattern : (i : ℕ) (s : Span) (z : K) → x (record { id = 0; span = s; kind = z }) ≡ x (record { id = i; span = s; kind = z })
 
 module _ {K F X : Type 0} (k : PatKind-F K F X → K) (f : FieldPat-F K F X → F) (x : Pat-F K F X → X) (blind : BlindPatterns k f x) where
-
   abbrev kind_of : PatKind → K
   kind_of y = fold-PatKind K F X k f x y
 

@@ -1,7 +1,6 @@
 -- The depth of a reading is that of its tree.
-use Rattle.std.proofs.Common.{◌≡◌, ◌+◌, ℕ, Bool, List, drop, Option, refl, sym, ap, ◌∙◌, arith}
+use Rattle.std.proofs.Common.{◌≡◌, ℕ, Bool, List, Option, refl, sym, ◌∙◌, arith}
 use Rattle.std.specs.Prelude.{max, map}
-use Rattle.oxml_base.specs.declared.span.Span.{Span}
 use Rattle.ml_lexer.specs.declared.token.Token.{Token}
 use Rattle.ml_cursor.specs.declared.front.Front.{Front}
 use Rattle.ml_cursor.specs.Places.{first_span}
@@ -9,7 +8,6 @@ use Rattle.ml_tree.specs.declared.pattern.Pat.{Pat}
 use Rattle.ml_tree.specs.declared.pattern.Param.{Param}
 use Rattle.ml_tree.specs.declared.pattern.ConName.TheVariants.{Named}
 use Rattle.ml_tree.specs.declared.expr.Expr.{Expr}
-use Rattle.ml_tree.specs.declared.expr.ExprKind.TheVariants as E
 use Rattle.ml_tree.specs.Depth.{greatest, pattern_depth, param_depth, expr_depth, arm_depth, bind_depth, field_depth}
 use Rattle.ml_grammar.specs.declared.looks.AtomLead.{AtomLead}
 use Rattle.ml_grammar.specs.declared.looks.Suffix.{Suffix}
@@ -18,7 +16,7 @@ use Rattle.ml_grammar.specs.declared.looks.Joint.{Joint}
 use Rattle.ml_grammar.specs.declared.looks.Joint.TheVariants.{Pair}
 use Rattle.ml_grammar.specs.declared.looks.ListKind.{ListKind}
 use Rattle.ml_grammar.specs.Looks.{second, is_rec}
-use Rattle.ml_grammar.specs.Trees.{start_of, end_of, end_behind, end_of_arm, end_of_branches, joined, name_pattern}
+use Rattle.ml_grammar.specs.Trees.{start_of, end_of, end_behind, end_of_arm, end_of_branches, joined}
 use Rattle.ml_grammar.specs.Grammar.{Part, Kind, ItemOf, exprs, fields, arms, binds, TargetBy, function_target, pattern_target, Reads, AtomBy, SuffixBy, ListedBy, LevelBy, OperandBy, ConBy, ElseBy, GuardBy, Lists, ItemBy, an_atom, a_simple, an_operand, a_level, a_list_of, a_leaf, a_text, a_paren, a_typed, a_begin, a_list, a_record, no_suffix, a_field, an_index, alone, several, no_operator, to_left, to_right, an_apply, a_constructor, a_minus, a_word, an_overwrite, a_let, a_borrow, a_match, a_function, a_fun, an_if, an_exclave, a_block, a_cell, no_else, an_else, no_guard, a_guard, the_last, one_more, an_expression, a_set_field, a_pun, an_arm, a_bind}
 use Rattle.tree_laws.proofs.depths.PatternDepths.{pattern_depth_is, params_depth_is, of_name_pattern}
 use Rattle.tree_laws.proofs.depths.DepthForms.{maybe_depth, of_text, of_leaf, of_block, of_paren, of_typed, of_list, of_fields, of_access, of_index, of_gathered, of_joined, of_minus, of_worded, of_overwrite, of_let, of_borrow, of_match, of_function, of_fun, of_if, of_exclave, of_arm, of_bind, of_field, of_pun}

@@ -10,7 +10,7 @@ use Rattle.ml_numbers.specs.Bare as I
 use Rattle.ml_numbers.specs.Bare.{bare_bind, bare_item_kind, bare_item}
 use Rattle.ml_numbers.proofs.AllStays.{stays}
 use Rattle.tree_laws.specs.Spans.{Edges, none, both, all, node, pattern_step, field_pattern_node, pattern_node, pattern_edges, param_edges, step, arm_step, bind_step, expr_step, field_step, bind_edges, item_kind_edges, item_edges}
-use Rattle.tree_laws.proofs.BareFolds.{Blind, two_same, three_same, list_same, bind_same}
+use Rattle.tree_laws.proofs.BareFolds.{Blind, three_same, list_same, bind_same}
 use Rattle.tree_laws.proofs.BarePatterns.{BlindPatterns, pattern_same as same_without}
 use Rattle.tree_laws.proofs.spans.BareTypes.{type_same, decls_same, result_same}
 

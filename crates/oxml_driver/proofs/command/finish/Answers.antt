@@ -1,4 +1,4 @@
-use Rattle.oxml_driver.proofs.CommandLemmas.{answers_refused, answers_unwritten}
+use Rattle.oxml_driver.proofs.CommandLemmas.{answers_passed, answers_refused, answers_unwritten}
 use Rattle.oxml_driver.proofs.command.finish.Goals as goal
 
 -- the shelf refused to save the image
@@ -11,4 +11,10 @@ returns-in-Err-Failed g c =
 pub returns-in-Err-Refused : goal.returns-in-Err-Refused
 returns-in-Err-Refused g c =
     let why = rw c.in-Err-Refused.field-0-is at c.in-Err-Refused.ensures.err in
-    answers_refused _ _ _ _ _ _ c.args.source.now c.in-Err-Refused.refusal c.requires.told c.requires.short why.1 why.2 (c.say_made.ensures _ c.refusal_line.ensures)
+    answers_refused _ _ _ _ _ _ c.args.source.now c.requires.told c.in-Err-Refused.refusal why (c.say_made.ensures _ c.refusal_line.ensures)
+
+-- the source passes a limit
+pub returns-in-Err-Limit : goal.returns-in-Err-Limit
+returns-in-Err-Limit g c =
+    let why = rw c.in-Err-Limit.field-0-is at c.in-Err-Limit.ensures.err in
+    answers_passed _ _ _ _ _ _ c.args.source.now c.requires.told c.requires.short why.0 (c.say_made-in-Err-Limit.ensures _ c.limit_line.ensures)

@@ -1,9 +1,6 @@
-use Rattle.std.proofs.Common.{arith}
-use Rattle.oxml_driver.proofs.SourceLemmas.{text_is_short}
+use Rattle.std.proofs.Common.{refl}
+use Rattle.oxml_driver.specs.Build.{bytes}
 use Rattle.oxml_driver.proofs.compile.compile.Goals as goal
 
--- a text is no longer than its source
-pub build_printer-requires-clause-short : goal.build_printer-requires-clause-short
-build_printer-requires-clause-short c =
-    let found = rw c.in-Ok-Some.field-0-is at c.in-Ok-Some.ensures.found in
-    omega (arith, text_is_short c.args.source.now c.in-Ok-Some.text.items found)
+pub returns-then-source-gt-MOST_BYTES-clause-err : goal.returns-then-source-gt-MOST_BYTES-clause-err
+returns-then-source-gt-MOST_BYTES-clause-err c = (bytes c.if-source-gt-MOST_BYTES.true, refl)

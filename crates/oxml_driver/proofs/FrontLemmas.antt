@@ -1,0 +1,57 @@
+-- What the parts of the front end come to for the source.
+use Rattle.std.proofs.Common.{◌≡◌, ◌≤◌, ◌+◌, ℕ, List, length, Option, None, sym, ap, ◌∙◌, length-append, subst, Result, Ok, Err, IfErr}
+use Rattle.oxml_base.specs.declared.refusal.Limit.{Limit as Passed}
+use Rattle.oxml_base.specs.declared.refusal.Limit.TheVariants.{Tokens}
+use Rattle.oxml_base.specs.declared.refusal.Refusal.{Refusal}
+use Rattle.oxml_base.specs.declared.rule.Rule.TheVariants.{LeftOut as FormLeftOut, Syntax}
+use Rattle.oxml_base.specs.declared.span.Span.{Span}
+use Rattle.oxml_driver.specs.Prelude.{prelude}
+use Rattle.ml_tree.specs.declared.program.Program.{Program}
+use Rattle.oxml_driver.specs.Form.{LeftOut}
+use Rattle.ml_lexer.specs.declared.token.Token.{Token}
+use Rattle.oxml_driver.specs.declared.compile.CompileErr.{CompileErr}
+use Rattle.oxml_driver.specs.declared.compile.CompileErr.TheVariants.{Refused, Limit, NoMemory}
+use Rattle.oxml_driver.specs.Build.{IsRefused, NotCompiled, Passes, tokens, lexical, syntax_error, form, most_bytes}
+use Rattle.oxml_driver.specs.Source.{AreTokens, HasNoTree, IsProgram, HasTokens, IsTooMany, LexFails, program_text, file_part, built_in_part, in_file, in_built_in, most_tokens}
+
+passes : (source : List ℕ) (limit : Passed) (span : Option Span) → length source ≤ most_bytes → IsTooMany source → limit ≡ Tokens (most_tokens + 1) → span ≡ None → Passes source limit × (span ≡ None)
+passes source limit span short many is none = (subst (λ l. Passes source l) (sym is) (tokens short many), none)
+
+file_fails : (source : List ℕ) (e : CompileErr) → length source ≤ most_bytes → LexFails (program_text source) (file_part source) e → NotCompiled source e
+file_fails source (Refused r) short fault = record { short = short; violates = lexical (in_file fault) }
+file_fails source (Limit l span) short (many, (is, none)) = passes source l span short (in_file many) is none
+file_fails source NoMemory short fails = tt
+
+built_in_fails : (source : List ℕ) (file : List Token) (e : CompileErr) → length source ≤ most_bytes → HasTokens (program_text source) (file_part source) file → LexFails (program_text source) (built_in_part source) e → NotCompiled source e
+built_in_fails source file (Refused r) short has fault =
+    record { short = short; violates = lexical (in_built_in has fault) }
+built_in_fails source file (Limit l span) short has (many, (is, none)) =
+    passes source l span short (in_built_in has many) is none
+built_in_fails source file NoMemory short has fails = tt
+
+pub file_err : {A : Type 0} (source text : List ℕ) (part : Span) (result : Result A CompileErr) → length source ≤ most_bytes → text ≡ program_text source → part ≡ file_part source → IfErr result (LexFails text part) → IfErr result (NotCompiled source)
+file_err source text part (Ok a) short is here fails = tt
+file_err source text part (Err e) short is here fails =
+    file_fails source e short (subst (λ t. LexFails t (file_part source) e) is (subst (λ p. LexFails text p e) here fails))
+
+pub built_in_err : {A : Type 0} (source text : List ℕ) (part : Span) (file : List Token) (result : Result A CompileErr) → length source ≤ most_bytes → text ≡ program_text source → part ≡ built_in_part source → HasTokens (program_text source) (file_part source) file → IfErr result (LexFails text part) → IfErr result (NotCompiled source)
+built_in_err source text part file (Ok a) short is here has fails = tt
+built_in_err source text part file (Err e) short is here has fails =
+    built_in_fails source file e short has (subst (λ t. LexFails t (built_in_part source) e) is (subst (λ p. LexFails text p e) here fails))
+
+pub syntax_fails : (source text : List ℕ) (list : List Token) (refusal : Refusal) → length source ≤ most_bytes → text ≡ program_text source → AreTokens source list → refusal.rule ≡ Syntax → HasNoTree text list → IsRefused source refusal
+syntax_fails source text list refusal short is are rule none = record {
+  short = short;
+  violates = syntax_error rule (record { tokens = list; are_tokens = are; no_tree = subst (λ t. HasNoTree t list) is none });
+}
+
+pub form_fails : (source text : List ℕ) (program : Program) (refusal : Refusal) → length source ≤ most_bytes → text ≡ program_text source → IsProgram source program → refusal.rule ≡ FormLeftOut → LeftOut text (length source) program.items refusal.span → IsRefused source refusal
+form_fails source text program refusal short is is_program rule left = record {
+  short = short;
+  violates = form rule is_program (subst (λ t. LeftOut t (length source) program.items refusal.span) is left);
+}
+
+pub built_in_part_is : (source text : List ℕ) → text ≡ program_text source → record { start = length source; end = length text } ≡ built_in_part source
+built_in_part_is source text is =
+    let ends = ap length is ∙ length-append source prelude in
+    ap (λ end. record { start = length source; end = end }) ends
