@@ -20,6 +20,7 @@ use std::alloc::Global;
 
 /// `[|] arm (| arm)*`
 #[cycle(expressions)]
+#[inline(never)]
 pub fn read_arms(
     alloc: Global,
     source: &Source,
@@ -43,6 +44,7 @@ pub fn read_arms(
 
 /// `pattern [when seq] -> seq`
 #[cycle(expressions)]
+#[inline(never)]
 fn read_arm(
     alloc: Global,
     source: &Source,
@@ -60,6 +62,7 @@ fn read_arm(
 
 /// `[when seq] -> seq`
 #[cycle(expressions)]
+#[inline(never)]
 fn read_action(
     alloc: Global,
     source: &Source,
@@ -77,6 +80,7 @@ fn read_action(
 
 /// `[when seq] ->`
 #[cycle(expressions)]
+#[inline(never)]
 fn read_guard(
     alloc: Global,
     source: &Source,

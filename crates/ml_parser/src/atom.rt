@@ -21,6 +21,7 @@ use std::alloc::Global;
 
 /// An expression in brackets of some kind, or a leaf.
 #[cycle(expressions)]
+#[inline(never)]
 pub fn read_atom(
     alloc: Global,
     source: &Source,
@@ -32,18 +33,19 @@ pub fn read_atom(
     ensures err { IfErr result (Says source.now.tokens.now (AreDeep (Reads source.now.text.now atom (drop at.old source.now.tokens.now)) left)) }
 {
     match atom_at(source.tokens, *at) {
-        AtomLead::Paren => Ok(read_paren(alloc, source, at, left)?),
-        AtomLead::Begin => Ok(read_begin(alloc, source, at, left)?),
-        AtomLead::List => Ok(read_elements(alloc, source, at, left)?),
-        AtomLead::Record => Ok(read_record(alloc, source, at, left)?),
-        AtomLead::Leaf(leaf) => Ok(read_leaf(leaf, source, at, left)?),
-        AtomLead::Text => Ok(read_text(alloc, source, at, left)?),
+        AtomLead::Paren => read_paren(alloc, source, at, left),
+        AtomLead::Begin => read_begin(alloc, source, at, left),
+        AtomLead::List => read_elements(alloc, source, at, left),
+        AtomLead::Record => read_record(alloc, source, at, left),
+        AtomLead::Leaf(leaf) => read_leaf(leaf, source, at, left),
+        AtomLead::Text => read_text(alloc, source, at, left),
         AtomLead::Nothing => Err(ParseErr::Refused(refusal_at(source.tokens, *at))),
     }
 }
 
 /// `(seq)` and `(seq : type)`
 #[cycle(expressions)]
+#[inline(never)]
 fn read_paren(
     alloc: Global,
     source: &Source,
@@ -61,6 +63,7 @@ fn read_paren(
 
 /// `begin seq end`
 #[cycle(expressions)]
+#[inline(never)]
 fn read_begin(
     alloc: Global,
     source: &Source,
@@ -78,6 +81,7 @@ fn read_begin(
 
 /// `[expr (; expr)* [;]]`
 #[cycle(expressions)]
+#[inline(never)]
 fn read_elements(
     alloc: Global,
     source: &Source,
@@ -95,6 +99,7 @@ fn read_elements(
 
 /// `{field (; field)* [;]}`
 #[cycle(expressions)]
+#[inline(never)]
 fn read_record(
     alloc: Global,
     source: &Source,

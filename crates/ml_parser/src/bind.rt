@@ -18,6 +18,7 @@ use std::alloc::Global;
 
 /// `bind (and bind)*`
 #[cycle(expressions)]
+#[inline(never)]
 pub fn read_binds(
     alloc: Global,
     source: &Source,
@@ -40,6 +41,7 @@ pub fn read_binds(
 
 /// `name param+ [: type] = seq` and `pattern [: type] = seq`
 #[cycle(expressions)]
+#[inline(never)]
 fn read_bind(
     alloc: Global,
     source: &Source,
@@ -57,6 +59,7 @@ fn read_bind(
 
 /// `[: type] = seq`
 #[cycle(expressions)]
+#[inline(never)]
 fn read_value(
     alloc: Global,
     source: &Source,

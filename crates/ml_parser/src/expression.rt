@@ -21,6 +21,7 @@ use std::alloc::Global;
 
 /// A part of a list of this kind.
 #[cycle(expressions)]
+#[inline(never)]
 pub fn read_part(
     kind: ListKind,
     alloc: Global,
@@ -34,15 +35,16 @@ pub fn read_part(
 {
     match kind {
         ListKind::Statements | ListKind::Elements => {
-            Ok(read_parts(ListKind::Parts, alloc, source, at, left)?)
+            read_parts(ListKind::Parts, alloc, source, at, left)
         }
-        ListKind::Parts => Ok(read_operators(LAST_LEVEL, alloc, source, at, left)?),
-        ListKind::Arguments => Ok(read_simple(alloc, source, at, left)?),
+        ListKind::Parts => read_operators(LAST_LEVEL, alloc, source, at, left),
+        ListKind::Arguments => read_simple(alloc, source, at, left),
     }
 }
 
 /// A sequence, a tuple or an application: one part is itself, several are a node.
 #[cycle(expressions)]
+#[inline(never)]
 pub fn read_parts(
     kind: ListKind,
     alloc: Global,
@@ -65,6 +67,7 @@ pub fn read_parts(
 
 /// An operand with the operators up to a level that stand behind it.
 #[cycle(expressions)]
+#[inline(never)]
 pub fn read_operators(
     level: u8,
     alloc: Global,
@@ -86,6 +89,7 @@ pub fn read_operators(
 
 /// What was found, with the operators behind it of the level above `lower`.
 #[cycle(expressions)]
+#[inline(never)]
 pub fn read_level(
     lower: u8,
     alloc: Global,
@@ -111,6 +115,7 @@ pub fn read_level(
 
 /// The same for a level that groups to the left.
 #[cycle(expressions)]
+#[inline(never)]
 fn read_to_left(
     lower: u8,
     alloc: Global,
@@ -135,6 +140,7 @@ fn read_to_left(
 /// A first operand, the operator behind it, and the second operand, which has the operators up to a
 /// level.
 #[cycle(expressions)]
+#[inline(never)]
 fn read_second(
     joint: Joint,
     level: u8,
@@ -158,6 +164,7 @@ fn read_second(
 
 /// A sequence, and the token that has to stand behind it.
 #[cycle(expressions)]
+#[inline(never)]
 pub fn read_until(
     end: Front,
     alloc: Global,
@@ -175,6 +182,7 @@ pub fn read_until(
 
 /// The token that has to stand here, and the sequence behind it.
 #[cycle(expressions)]
+#[inline(never)]
 pub fn read_behind(
     start: Front,
     alloc: Global,

@@ -19,6 +19,7 @@ use std::alloc::Global;
 
 /// The parts of a list, one or more.
 #[cycle(expressions)]
+#[inline(never)]
 pub fn read_list(
     kind: ListKind,
     alloc: Global,

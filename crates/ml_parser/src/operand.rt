@@ -26,6 +26,7 @@ use std::alloc::Global;
 /// An operand of an operator: an open form, a prefix with its operand, or an application. An open
 /// form takes all tokens that can belong to it, so it is the last operand.
 #[cycle(expressions)]
+#[inline(never)]
 pub fn read_operand(
     alloc: Global,
     source: &Source,
@@ -37,23 +38,24 @@ pub fn read_operand(
     ensures err { IfErr result (Says source.now.tokens.now (AreDeep (Reads source.now.text.now (operators 0) (drop at.old source.now.tokens.now)) left)) }
 {
     match lead_at(source.tokens, *at) {
-        Lead::Let => Ok(read_let(alloc, source, at, left)?),
-        Lead::Borrow => Ok(read_borrow(alloc, source, at, left)?),
-        Lead::Match => Ok(read_match(alloc, source, at, left)?),
-        Lead::Function => Ok(read_function(alloc, source, at, left)?),
-        Lead::Fun => Ok(read_fun(alloc, source, at, left)?),
-        Lead::If => Ok(read_if(alloc, source, at, left)?),
-        Lead::Exclave => Ok(read_exclave(alloc, source, at, left)?),
-        Lead::Minus => Ok(read_minus(alloc, source, at, left)?),
-        Lead::Word(words) => Ok(read_worded(words, alloc, source, at, left)?),
-        Lead::Overwrite => Ok(read_overwrite(alloc, source, at, left)?),
-        Lead::Constructor => Ok(read_block(alloc, source, at, left)?),
-        Lead::Application => Ok(read_parts(ListKind::Arguments, alloc, source, at, left)?),
+        Lead::Let => read_let(alloc, source, at, left),
+        Lead::Borrow => read_borrow(alloc, source, at, left),
+        Lead::Match => read_match(alloc, source, at, left),
+        Lead::Function => read_function(alloc, source, at, left),
+        Lead::Fun => read_fun(alloc, source, at, left),
+        Lead::If => read_if(alloc, source, at, left),
+        Lead::Exclave => read_exclave(alloc, source, at, left),
+        Lead::Minus => read_minus(alloc, source, at, left),
+        Lead::Word(words) => read_worded(words, alloc, source, at, left),
+        Lead::Overwrite => read_overwrite(alloc, source, at, left),
+        Lead::Constructor => read_block(alloc, source, at, left),
+        Lead::Application => read_parts(ListKind::Arguments, alloc, source, at, left),
     }
 }
 
 /// `let [rec] bind (and bind)* in seq`
 #[cycle(expressions)]
+#[inline(never)]
 fn read_let(
     alloc: Global,
     source: &Source,
@@ -73,6 +75,7 @@ fn read_let(
 
 /// `let borrow_ name = name in seq`
 #[cycle(expressions)]
+#[inline(never)]
 fn read_borrow(
     alloc: Global,
     source: &Source,
@@ -91,6 +94,7 @@ fn read_borrow(
 
 /// `match seq with arms`
 #[cycle(expressions)]
+#[inline(never)]
 fn read_match(
     alloc: Global,
     source: &Source,
@@ -109,6 +113,7 @@ fn read_match(
 
 /// `function arms`
 #[cycle(expressions)]
+#[inline(never)]
 fn read_function(
     alloc: Global,
     source: &Source,
@@ -126,6 +131,7 @@ fn read_function(
 
 /// `fun param+ -> seq`
 #[cycle(expressions)]
+#[inline(never)]
 fn read_fun(
     alloc: Global,
     source: &Source,
@@ -144,6 +150,7 @@ fn read_fun(
 
 /// `if seq then expr [else expr]`
 #[cycle(expressions)]
+#[inline(never)]
 fn read_if(
     alloc: Global,
     source: &Source,
@@ -162,6 +169,7 @@ fn read_if(
 
 /// `expr [else expr]`
 #[cycle(expressions)]
+#[inline(never)]
 fn read_branches(
     alloc: Global,
     source: &Source,
@@ -179,6 +187,7 @@ fn read_branches(
 
 /// `[else expr]`
 #[cycle(expressions)]
+#[inline(never)]
 fn read_else(
     alloc: Global,
     source: &Source,
@@ -197,6 +206,7 @@ fn read_else(
 
 /// `exclave_ seq`
 #[cycle(expressions)]
+#[inline(never)]
 fn read_exclave(
     alloc: Global,
     source: &Source,
@@ -214,6 +224,7 @@ fn read_exclave(
 
 /// `-` and its operand.
 #[cycle(expressions)]
+#[inline(never)]
 fn read_minus(
     alloc: Global,
     source: &Source,
@@ -231,6 +242,7 @@ fn read_minus(
 
 /// A word that states a mode, and its operand.
 #[cycle(expressions)]
+#[inline(never)]
 fn read_worded(
     words: Words,
     alloc: Global,

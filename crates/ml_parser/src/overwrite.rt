@@ -22,6 +22,7 @@ use std::alloc::Global;
 
 /// `overwrite_ name with con`
 #[cycle(expressions)]
+#[inline(never)]
 pub fn read_overwrite(
     alloc: Global,
     source: &Source,
@@ -40,6 +41,7 @@ pub fn read_overwrite(
 
 /// `Name simple`, or `(expr)` with `::` on top.
 #[cycle(expressions)]
+#[inline(never)]
 fn read_con(
     alloc: Global,
     source: &Source,
@@ -59,6 +61,7 @@ fn read_con(
 
 /// `Name simple`
 #[cycle(expressions)]
+#[inline(never)]
 pub fn read_block(
     alloc: Global,
     source: &Source,
@@ -76,6 +79,7 @@ pub fn read_block(
 
 /// `(expr)` with `::` on top.
 #[cycle(expressions)]
+#[inline(never)]
 fn read_cell(
     alloc: Global,
     source: &Source,

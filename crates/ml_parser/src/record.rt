@@ -18,6 +18,7 @@ use std::alloc::Global;
 
 /// `field (; field)* [;]`
 #[cycle(expressions)]
+#[inline(never)]
 pub fn read_fields(
     alloc: Global,
     source: &Source,
@@ -40,6 +41,7 @@ pub fn read_fields(
 
 /// `name [= expr]`
 #[cycle(expressions)]
+#[inline(never)]
 fn read_field(
     alloc: Global,
     source: &Source,

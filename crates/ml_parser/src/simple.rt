@@ -20,6 +20,7 @@ use std::alloc::Global;
 
 /// An atom with the `.name` and `.[seq]` behind it.
 #[cycle(expressions)]
+#[inline(never)]
 pub fn read_simple(
     alloc: Global,
     source: &Source,
@@ -39,6 +40,7 @@ pub fn read_simple(
 
 /// What was found, with one `.name` or `.[seq]`.
 #[cycle(expressions)]
+#[inline(never)]
 fn read_suffix(
     alloc: Global,
     source: &Source,
@@ -61,6 +63,7 @@ fn read_suffix(
 
 /// What was found, with one `.[seq]`.
 #[cycle(expressions)]
+#[inline(never)]
 fn read_index(
     alloc: Global,
     source: &Source,

@@ -1,4 +1,4 @@
-use Rattle.ml_parse_patterns.proofs.Relays.{relay}
+use Rattle.ml_parse_patterns.proofs.Relays.{relay, says, if_ok, if_err}
 use Rattle.ml_grammar.proofs.Items.{action_deep, action_deep_behind, arm_deep, arm_deep_behind, list_deep, guard_deep, bind_deep, bind_deep_behind, value_deep, listed_first_deep, listed_alone, listed_deep, branches_deep, branches_deep_behind, field_no_name, pun_no_room, set_field_deep, set_field_read}
 use Rattle.ml_parser.proofs.Bracketed.{action_found, arm_found, memory_out, list_starts, next_shorter, then, not_so, same_place, so, guard_found, no_guard_found, no_arrow, room, most, paren_unclosed, bind_found, no_result_found, value_found, took, pun_found, at_true, at_false}
 use Rattle.std.proofs.Common.{sym, ◌∙◌, arith, refl, ◌≡◌, ◌+◌, suc, ◌≤◌, ◌-◌, true, false, rules, ◌<◌, ◌≢◌, drop, ap}
@@ -81,47 +81,41 @@ pub arms::read_guard-returns-clause-ok : goal.arms::read_guard-returns-clause-ok
 arms::read_guard-returns-clause-ok t c =
     no_guard_found (same_place _ (c.accept.ensures.stays (not_so c.accept.ensures.stands c.if-accept.false))) c.in_ok-expect.ensures.stands c.in_ok-expect.ensures.passed c.nothing.ensures.tree c.nothing.ensures.depth
 
-pub atom::read_atom-returns-in_err-read_paren-in-Paren-clause-err : goal.atom::read_atom-returns-in_err-read_paren-in-Paren-clause-err
-atom::read_atom-returns-in_err-read_paren-in-Paren-clause-err t c =
-    relay _ _ _ (atom_deep c.in-Paren.ensures) c.in_err-read_paren-in-Paren.ensures.err c.from_residual.ensures.1
+pub atom::read_atom-returns-in-Paren-clause-err : goal.atom::read_atom-returns-in-Paren-clause-err
+atom::read_atom-returns-in-Paren-clause-err t c = if_err c.read_paren.result (λ e s. says _ e (atom_deep c.in-Paren.ensures) s) c.read_paren.ensures.err
 
-pub atom::read_atom-returns-in_ok-read_paren-in-Paren-clause-ok : goal.atom::read_atom-returns-in_ok-read_paren-in-Paren-clause-ok
-atom::read_atom-returns-in_ok-read_paren-in-Paren-clause-ok t c = atom_read c.in-Paren.ensures c.in_ok-read_paren-in-Paren.ensures.ok
+pub atom::read_atom-returns-in-Paren-clause-ok : goal.atom::read_atom-returns-in-Paren-clause-ok
+atom::read_atom-returns-in-Paren-clause-ok t c = if_ok c.read_paren.result (λ f h. atom_read c.in-Paren.ensures h) c.read_paren.ensures.ok
 
-pub atom::read_atom-returns-in_err-read_begin-in-Begin-clause-err : goal.atom::read_atom-returns-in_err-read_begin-in-Begin-clause-err
-atom::read_atom-returns-in_err-read_begin-in-Begin-clause-err t c =
-    relay _ _ _ (atom_deep c.in-Begin.ensures) c.in_err-read_begin-in-Begin.ensures.err c.from_residual-in_err-read_begin-in-Begin.ensures.1
+pub atom::read_atom-returns-in-Begin-clause-err : goal.atom::read_atom-returns-in-Begin-clause-err
+atom::read_atom-returns-in-Begin-clause-err t c = if_err c.read_begin.result (λ e s. says _ e (atom_deep c.in-Begin.ensures) s) c.read_begin.ensures.err
 
-pub atom::read_atom-returns-in_ok-read_begin-in-Begin-clause-ok : goal.atom::read_atom-returns-in_ok-read_begin-in-Begin-clause-ok
-atom::read_atom-returns-in_ok-read_begin-in-Begin-clause-ok t c = atom_read c.in-Begin.ensures c.in_ok-read_begin-in-Begin.ensures.ok
+pub atom::read_atom-returns-in-Begin-clause-ok : goal.atom::read_atom-returns-in-Begin-clause-ok
+atom::read_atom-returns-in-Begin-clause-ok t c = if_ok c.read_begin.result (λ f h. atom_read c.in-Begin.ensures h) c.read_begin.ensures.ok
 
-pub atom::read_atom-returns-in_err-read_elements-in-List-clause-err : goal.atom::read_atom-returns-in_err-read_elements-in-List-clause-err
-atom::read_atom-returns-in_err-read_elements-in-List-clause-err t c =
-    relay _ _ _ (atom_deep c.in-List.ensures) c.in_err-read_elements-in-List.ensures.err c.from_residual-in_err-read_elements-in-List.ensures.1
+pub atom::read_atom-returns-in-List-clause-err : goal.atom::read_atom-returns-in-List-clause-err
+atom::read_atom-returns-in-List-clause-err t c = if_err c.read_elements.result (λ e s. says _ e (atom_deep c.in-List.ensures) s) c.read_elements.ensures.err
 
-pub atom::read_atom-returns-in_ok-read_elements-in-List-clause-ok : goal.atom::read_atom-returns-in_ok-read_elements-in-List-clause-ok
-atom::read_atom-returns-in_ok-read_elements-in-List-clause-ok t c = atom_read c.in-List.ensures c.in_ok-read_elements-in-List.ensures.ok
+pub atom::read_atom-returns-in-List-clause-ok : goal.atom::read_atom-returns-in-List-clause-ok
+atom::read_atom-returns-in-List-clause-ok t c = if_ok c.read_elements.result (λ f h. atom_read c.in-List.ensures h) c.read_elements.ensures.ok
 
-pub atom::read_atom-returns-in_err-read_record-in-Record-clause-err : goal.atom::read_atom-returns-in_err-read_record-in-Record-clause-err
-atom::read_atom-returns-in_err-read_record-in-Record-clause-err t c =
-    relay _ _ _ (atom_deep c.in-Record.ensures) c.in_err-read_record-in-Record.ensures.err c.from_residual-in_err-read_record-in-Record.ensures.1
+pub atom::read_atom-returns-in-Record-clause-err : goal.atom::read_atom-returns-in-Record-clause-err
+atom::read_atom-returns-in-Record-clause-err t c = if_err c.read_record.result (λ e s. says _ e (atom_deep c.in-Record.ensures) s) c.read_record.ensures.err
 
-pub atom::read_atom-returns-in_ok-read_record-in-Record-clause-ok : goal.atom::read_atom-returns-in_ok-read_record-in-Record-clause-ok
-atom::read_atom-returns-in_ok-read_record-in-Record-clause-ok t c = atom_read c.in-Record.ensures c.in_ok-read_record-in-Record.ensures.ok
+pub atom::read_atom-returns-in-Record-clause-ok : goal.atom::read_atom-returns-in-Record-clause-ok
+atom::read_atom-returns-in-Record-clause-ok t c = if_ok c.read_record.result (λ f h. atom_read c.in-Record.ensures h) c.read_record.ensures.ok
 
-pub atom::read_atom-returns-in_err-read_leaf-in-Leaf-clause-err : goal.atom::read_atom-returns-in_err-read_leaf-in-Leaf-clause-err
-atom::read_atom-returns-in_err-read_leaf-in-Leaf-clause-err t c =
-    relay _ _ _ (atom_deep c.in-Leaf.ensures) c.in_err-read_leaf-in-Leaf.ensures.err c.from_residual-in_err-read_leaf-in-Leaf.ensures.1
+pub atom::read_atom-returns-in-Leaf-clause-err : goal.atom::read_atom-returns-in-Leaf-clause-err
+atom::read_atom-returns-in-Leaf-clause-err t c = if_err c.read_leaf.result (λ e s. says _ e (atom_deep c.in-Leaf.ensures) s) c.read_leaf.ensures.err
 
-pub atom::read_atom-returns-in_ok-read_leaf-in-Leaf-clause-ok : goal.atom::read_atom-returns-in_ok-read_leaf-in-Leaf-clause-ok
-atom::read_atom-returns-in_ok-read_leaf-in-Leaf-clause-ok t c = atom_read c.in-Leaf.ensures c.in_ok-read_leaf-in-Leaf.ensures.ok
+pub atom::read_atom-returns-in-Leaf-clause-ok : goal.atom::read_atom-returns-in-Leaf-clause-ok
+atom::read_atom-returns-in-Leaf-clause-ok t c = if_ok c.read_leaf.result (λ f h. atom_read c.in-Leaf.ensures h) c.read_leaf.ensures.ok
 
-pub atom::read_atom-returns-in_err-read_text-in-Text-clause-err : goal.atom::read_atom-returns-in_err-read_text-in-Text-clause-err
-atom::read_atom-returns-in_err-read_text-in-Text-clause-err t c =
-    relay _ _ _ (atom_deep c.in-Text.ensures) c.in_err-read_text-in-Text.ensures.err c.from_residual-in_err-read_text-in-Text.ensures.1
+pub atom::read_atom-returns-in-Text-clause-err : goal.atom::read_atom-returns-in-Text-clause-err
+atom::read_atom-returns-in-Text-clause-err t c = if_err c.read_text.result (λ e s. says _ e (atom_deep c.in-Text.ensures) s) c.read_text.ensures.err
 
-pub atom::read_atom-returns-in_ok-read_text-in-Text-clause-ok : goal.atom::read_atom-returns-in_ok-read_text-in-Text-clause-ok
-atom::read_atom-returns-in_ok-read_text-in-Text-clause-ok t c = atom_read c.in-Text.ensures c.in_ok-read_text-in-Text.ensures.ok
+pub atom::read_atom-returns-in-Text-clause-ok : goal.atom::read_atom-returns-in-Text-clause-ok
+atom::read_atom-returns-in-Text-clause-ok t c = if_ok c.read_text.result (λ f h. atom_read c.in-Text.ensures h) c.read_text.ensures.ok
 
 pub atom::read_atom-returns-in-Nothing-clause-err : goal.atom::read_atom-returns-in-Nothing-clause-err
 atom::read_atom-returns-in-Nothing-clause-err t c = (c.refusal_at.ensures, atom_deep c.in-Nothing.ensures no_atom)
@@ -289,23 +283,23 @@ expression::read_operators-returns-clause-ok t c =
     let last : c.levels.lower ≡ c.args.level = omega arith in
     all_levels last c.levels.invariant
 
-pub expression::read_part-returns-in_err-read_parts-in-Statements-clause-err : goal.expression::read_part-returns-in_err-read_parts-in-Statements-clause-err
-expression::read_part-returns-in_err-read_parts-in-Statements-clause-err t c = relay _ _ _ (tuple_deep c.in-Statements.is) c.in_err-read_parts-in-Statements.ensures.err c.from_residual.ensures.1
+pub expression::read_part-returns-in-Statements-clause-err : goal.expression::read_part-returns-in-Statements-clause-err
+expression::read_part-returns-in-Statements-clause-err t c = if_err c.read_parts.result (λ e s. says _ e (tuple_deep c.in-Statements.is) s) c.read_parts.ensures.err
 
-pub expression::read_part-returns-in_ok-read_parts-in-Statements-clause-ok : goal.expression::read_part-returns-in_ok-read_parts-in-Statements-clause-ok
-expression::read_part-returns-in_ok-read_parts-in-Statements-clause-ok t c = tuple_read c.in-Statements.is c.in_ok-read_parts-in-Statements.ensures.ok
+pub expression::read_part-returns-in-Statements-clause-ok : goal.expression::read_part-returns-in-Statements-clause-ok
+expression::read_part-returns-in-Statements-clause-ok t c = if_ok c.read_parts.result (λ f h. tuple_read c.in-Statements.is h) c.read_parts.ensures.ok
 
-pub expression::read_part-returns-in_err-read_operators-in-Parts-clause-err : goal.expression::read_part-returns-in_err-read_operators-in-Parts-clause-err
-expression::read_part-returns-in_err-read_operators-in-Parts-clause-err t c = relay _ _ _ (part_deep c.in-Parts.is) c.in_err-read_operators-in-Parts.ensures.err c.from_residual-in_err-read_operators-in-Parts.ensures.1
+pub expression::read_part-returns-in-Parts-clause-err : goal.expression::read_part-returns-in-Parts-clause-err
+expression::read_part-returns-in-Parts-clause-err t c = if_err c.read_operators.result (λ e s. says _ e (part_deep c.in-Parts.is) s) c.read_operators.ensures.err
 
-pub expression::read_part-returns-in_ok-read_operators-in-Parts-clause-ok : goal.expression::read_part-returns-in_ok-read_operators-in-Parts-clause-ok
-expression::read_part-returns-in_ok-read_operators-in-Parts-clause-ok t c = part_read c.in-Parts.is c.in_ok-read_operators-in-Parts.ensures.ok
+pub expression::read_part-returns-in-Parts-clause-ok : goal.expression::read_part-returns-in-Parts-clause-ok
+expression::read_part-returns-in-Parts-clause-ok t c = if_ok c.read_operators.result (λ f h. part_read c.in-Parts.is h) c.read_operators.ensures.ok
 
-pub expression::read_part-returns-in_err-read_simple-in-Arguments-clause-err : goal.expression::read_part-returns-in_err-read_simple-in-Arguments-clause-err
-expression::read_part-returns-in_err-read_simple-in-Arguments-clause-err t c = relay _ _ _ (part_deep c.in-Arguments.is) c.in_err-read_simple-in-Arguments.ensures.err c.from_residual-in_err-read_simple-in-Arguments.ensures.1
+pub expression::read_part-returns-in-Arguments-clause-err : goal.expression::read_part-returns-in-Arguments-clause-err
+expression::read_part-returns-in-Arguments-clause-err t c = if_err c.read_simple.result (λ e s. says _ e (part_deep c.in-Arguments.is) s) c.read_simple.ensures.err
 
-pub expression::read_part-returns-in_ok-read_simple-in-Arguments-clause-ok : goal.expression::read_part-returns-in_ok-read_simple-in-Arguments-clause-ok
-expression::read_part-returns-in_ok-read_simple-in-Arguments-clause-ok t c = part_read c.in-Arguments.is c.in_ok-read_simple-in-Arguments.ensures.ok
+pub expression::read_part-returns-in-Arguments-clause-ok : goal.expression::read_part-returns-in-Arguments-clause-ok
+expression::read_part-returns-in-Arguments-clause-ok t c = if_ok c.read_simple.result (λ f h. part_read c.in-Arguments.is h) c.read_simple.ensures.ok
 
 pub expression::read_parts-returns-in_err-first-clause-err : goal.expression::read_parts-returns-in_err-first-clause-err
 expression::read_parts-returns-in_err-first-clause-err t c = relay _ _ _ listed_first_deep c.in_err-first.ensures.err c.from_residual.ensures.1
@@ -559,77 +553,77 @@ operand::read_minus-returns-clause-ok t c =
     let less : c.in_ok-head.head.below < c.args.left = omega (arith, c.in_ok-head.ensures.below) in
     minus_read c.in_ok-head.ensures.passed c.in_ok-head.ensures.span less c.in_ok-operand.ensures.ok c.in_ok-minus.ensures.tree c.in_ok-minus.ensures.depth
 
-pub operand::read_operand-returns-in_ok-read_let-in-Let-clause-ok : goal.operand::read_operand-returns-in_ok-read_let-in-Let-clause-ok
-operand::read_operand-returns-in_ok-read_let-in-Let-clause-ok t c = operand_read c.in-Let.ensures c.in_ok-read_let-in-Let.ensures.ok
+pub operand::read_operand-returns-in-Let-clause-ok : goal.operand::read_operand-returns-in-Let-clause-ok
+operand::read_operand-returns-in-Let-clause-ok t c = if_ok c.read_let.result (λ f h. operand_read c.in-Let.ensures h) c.read_let.ensures.ok
 
-pub operand::read_operand-returns-in_err-read_let-in-Let-clause-err : goal.operand::read_operand-returns-in_err-read_let-in-Let-clause-err
-operand::read_operand-returns-in_err-read_let-in-Let-clause-err t c = relay _ _ _ (operand_deep c.in-Let.ensures) c.in_err-read_let-in-Let.ensures.err c.from_residual.ensures.1
+pub operand::read_operand-returns-in-Let-clause-err : goal.operand::read_operand-returns-in-Let-clause-err
+operand::read_operand-returns-in-Let-clause-err t c = if_err c.read_let.result (λ e s. says _ e (operand_deep c.in-Let.ensures) s) c.read_let.ensures.err
 
-pub operand::read_operand-returns-in_ok-read_borrow-in-Borrow-clause-ok : goal.operand::read_operand-returns-in_ok-read_borrow-in-Borrow-clause-ok
-operand::read_operand-returns-in_ok-read_borrow-in-Borrow-clause-ok t c = operand_read c.in-Borrow.ensures c.in_ok-read_borrow-in-Borrow.ensures.ok
+pub operand::read_operand-returns-in-Borrow-clause-ok : goal.operand::read_operand-returns-in-Borrow-clause-ok
+operand::read_operand-returns-in-Borrow-clause-ok t c = if_ok c.read_borrow.result (λ f h. operand_read c.in-Borrow.ensures h) c.read_borrow.ensures.ok
 
-pub operand::read_operand-returns-in_err-read_borrow-in-Borrow-clause-err : goal.operand::read_operand-returns-in_err-read_borrow-in-Borrow-clause-err
-operand::read_operand-returns-in_err-read_borrow-in-Borrow-clause-err t c = relay _ _ _ (operand_deep c.in-Borrow.ensures) c.in_err-read_borrow-in-Borrow.ensures.err c.from_residual-in_err-read_borrow-in-Borrow.ensures.1
+pub operand::read_operand-returns-in-Borrow-clause-err : goal.operand::read_operand-returns-in-Borrow-clause-err
+operand::read_operand-returns-in-Borrow-clause-err t c = if_err c.read_borrow.result (λ e s. says _ e (operand_deep c.in-Borrow.ensures) s) c.read_borrow.ensures.err
 
-pub operand::read_operand-returns-in_ok-read_match-in-Match-clause-ok : goal.operand::read_operand-returns-in_ok-read_match-in-Match-clause-ok
-operand::read_operand-returns-in_ok-read_match-in-Match-clause-ok t c = operand_read c.in-Match.ensures c.in_ok-read_match-in-Match.ensures.ok
+pub operand::read_operand-returns-in-Match-clause-ok : goal.operand::read_operand-returns-in-Match-clause-ok
+operand::read_operand-returns-in-Match-clause-ok t c = if_ok c.read_match.result (λ f h. operand_read c.in-Match.ensures h) c.read_match.ensures.ok
 
-pub operand::read_operand-returns-in_err-read_match-in-Match-clause-err : goal.operand::read_operand-returns-in_err-read_match-in-Match-clause-err
-operand::read_operand-returns-in_err-read_match-in-Match-clause-err t c = relay _ _ _ (operand_deep c.in-Match.ensures) c.in_err-read_match-in-Match.ensures.err c.from_residual-in_err-read_match-in-Match.ensures.1
+pub operand::read_operand-returns-in-Match-clause-err : goal.operand::read_operand-returns-in-Match-clause-err
+operand::read_operand-returns-in-Match-clause-err t c = if_err c.read_match.result (λ e s. says _ e (operand_deep c.in-Match.ensures) s) c.read_match.ensures.err
 
-pub operand::read_operand-returns-in_ok-read_function-in-Function-clause-ok : goal.operand::read_operand-returns-in_ok-read_function-in-Function-clause-ok
-operand::read_operand-returns-in_ok-read_function-in-Function-clause-ok t c = operand_read c.in-Function.ensures c.in_ok-read_function-in-Function.ensures.ok
+pub operand::read_operand-returns-in-Function-clause-ok : goal.operand::read_operand-returns-in-Function-clause-ok
+operand::read_operand-returns-in-Function-clause-ok t c = if_ok c.read_function.result (λ f h. operand_read c.in-Function.ensures h) c.read_function.ensures.ok
 
-pub operand::read_operand-returns-in_err-read_function-in-Function-clause-err : goal.operand::read_operand-returns-in_err-read_function-in-Function-clause-err
-operand::read_operand-returns-in_err-read_function-in-Function-clause-err t c = relay _ _ _ (operand_deep c.in-Function.ensures) c.in_err-read_function-in-Function.ensures.err c.from_residual-in_err-read_function-in-Function.ensures.1
+pub operand::read_operand-returns-in-Function-clause-err : goal.operand::read_operand-returns-in-Function-clause-err
+operand::read_operand-returns-in-Function-clause-err t c = if_err c.read_function.result (λ e s. says _ e (operand_deep c.in-Function.ensures) s) c.read_function.ensures.err
 
-pub operand::read_operand-returns-in_ok-read_fun-in-Fun-clause-ok : goal.operand::read_operand-returns-in_ok-read_fun-in-Fun-clause-ok
-operand::read_operand-returns-in_ok-read_fun-in-Fun-clause-ok t c = operand_read c.in-Fun.ensures c.in_ok-read_fun-in-Fun.ensures.ok
+pub operand::read_operand-returns-in-Fun-clause-ok : goal.operand::read_operand-returns-in-Fun-clause-ok
+operand::read_operand-returns-in-Fun-clause-ok t c = if_ok c.read_fun.result (λ f h. operand_read c.in-Fun.ensures h) c.read_fun.ensures.ok
 
-pub operand::read_operand-returns-in_err-read_fun-in-Fun-clause-err : goal.operand::read_operand-returns-in_err-read_fun-in-Fun-clause-err
-operand::read_operand-returns-in_err-read_fun-in-Fun-clause-err t c = relay _ _ _ (operand_deep c.in-Fun.ensures) c.in_err-read_fun-in-Fun.ensures.err c.from_residual-in_err-read_fun-in-Fun.ensures.1
+pub operand::read_operand-returns-in-Fun-clause-err : goal.operand::read_operand-returns-in-Fun-clause-err
+operand::read_operand-returns-in-Fun-clause-err t c = if_err c.read_fun.result (λ e s. says _ e (operand_deep c.in-Fun.ensures) s) c.read_fun.ensures.err
 
-pub operand::read_operand-returns-in_ok-read_if-in-If-clause-ok : goal.operand::read_operand-returns-in_ok-read_if-in-If-clause-ok
-operand::read_operand-returns-in_ok-read_if-in-If-clause-ok t c = operand_read c.in-If.ensures c.in_ok-read_if-in-If.ensures.ok
+pub operand::read_operand-returns-in-If-clause-ok : goal.operand::read_operand-returns-in-If-clause-ok
+operand::read_operand-returns-in-If-clause-ok t c = if_ok c.read_if.result (λ f h. operand_read c.in-If.ensures h) c.read_if.ensures.ok
 
-pub operand::read_operand-returns-in_err-read_if-in-If-clause-err : goal.operand::read_operand-returns-in_err-read_if-in-If-clause-err
-operand::read_operand-returns-in_err-read_if-in-If-clause-err t c = relay _ _ _ (operand_deep c.in-If.ensures) c.in_err-read_if-in-If.ensures.err c.from_residual-in_err-read_if-in-If.ensures.1
+pub operand::read_operand-returns-in-If-clause-err : goal.operand::read_operand-returns-in-If-clause-err
+operand::read_operand-returns-in-If-clause-err t c = if_err c.read_if.result (λ e s. says _ e (operand_deep c.in-If.ensures) s) c.read_if.ensures.err
 
-pub operand::read_operand-returns-in_ok-read_exclave-in-Exclave-clause-ok : goal.operand::read_operand-returns-in_ok-read_exclave-in-Exclave-clause-ok
-operand::read_operand-returns-in_ok-read_exclave-in-Exclave-clause-ok t c = operand_read c.in-Exclave.ensures c.in_ok-read_exclave-in-Exclave.ensures.ok
+pub operand::read_operand-returns-in-Exclave-clause-ok : goal.operand::read_operand-returns-in-Exclave-clause-ok
+operand::read_operand-returns-in-Exclave-clause-ok t c = if_ok c.read_exclave.result (λ f h. operand_read c.in-Exclave.ensures h) c.read_exclave.ensures.ok
 
-pub operand::read_operand-returns-in_err-read_exclave-in-Exclave-clause-err : goal.operand::read_operand-returns-in_err-read_exclave-in-Exclave-clause-err
-operand::read_operand-returns-in_err-read_exclave-in-Exclave-clause-err t c = relay _ _ _ (operand_deep c.in-Exclave.ensures) c.in_err-read_exclave-in-Exclave.ensures.err c.from_residual-in_err-read_exclave-in-Exclave.ensures.1
+pub operand::read_operand-returns-in-Exclave-clause-err : goal.operand::read_operand-returns-in-Exclave-clause-err
+operand::read_operand-returns-in-Exclave-clause-err t c = if_err c.read_exclave.result (λ e s. says _ e (operand_deep c.in-Exclave.ensures) s) c.read_exclave.ensures.err
 
-pub operand::read_operand-returns-in_ok-read_minus-in-Minus-clause-ok : goal.operand::read_operand-returns-in_ok-read_minus-in-Minus-clause-ok
-operand::read_operand-returns-in_ok-read_minus-in-Minus-clause-ok t c = operand_read c.in-Minus.ensures c.in_ok-read_minus-in-Minus.ensures.ok
+pub operand::read_operand-returns-in-Minus-clause-ok : goal.operand::read_operand-returns-in-Minus-clause-ok
+operand::read_operand-returns-in-Minus-clause-ok t c = if_ok c.read_minus.result (λ f h. operand_read c.in-Minus.ensures h) c.read_minus.ensures.ok
 
-pub operand::read_operand-returns-in_err-read_minus-in-Minus-clause-err : goal.operand::read_operand-returns-in_err-read_minus-in-Minus-clause-err
-operand::read_operand-returns-in_err-read_minus-in-Minus-clause-err t c = relay _ _ _ (operand_deep c.in-Minus.ensures) c.in_err-read_minus-in-Minus.ensures.err c.from_residual-in_err-read_minus-in-Minus.ensures.1
+pub operand::read_operand-returns-in-Minus-clause-err : goal.operand::read_operand-returns-in-Minus-clause-err
+operand::read_operand-returns-in-Minus-clause-err t c = if_err c.read_minus.result (λ e s. says _ e (operand_deep c.in-Minus.ensures) s) c.read_minus.ensures.err
 
-pub operand::read_operand-returns-in_ok-read_worded-in-Word-clause-ok : goal.operand::read_operand-returns-in_ok-read_worded-in-Word-clause-ok
-operand::read_operand-returns-in_ok-read_worded-in-Word-clause-ok t c = operand_read c.in-Word.ensures c.in_ok-read_worded-in-Word.ensures.ok
+pub operand::read_operand-returns-in-Word-clause-ok : goal.operand::read_operand-returns-in-Word-clause-ok
+operand::read_operand-returns-in-Word-clause-ok t c = if_ok c.read_worded.result (λ f h. operand_read c.in-Word.ensures h) c.read_worded.ensures.ok
 
-pub operand::read_operand-returns-in_err-read_worded-in-Word-clause-err : goal.operand::read_operand-returns-in_err-read_worded-in-Word-clause-err
-operand::read_operand-returns-in_err-read_worded-in-Word-clause-err t c = relay _ _ _ (operand_deep c.in-Word.ensures) c.in_err-read_worded-in-Word.ensures.err c.from_residual-in_err-read_worded-in-Word.ensures.1
+pub operand::read_operand-returns-in-Word-clause-err : goal.operand::read_operand-returns-in-Word-clause-err
+operand::read_operand-returns-in-Word-clause-err t c = if_err c.read_worded.result (λ e s. says _ e (operand_deep c.in-Word.ensures) s) c.read_worded.ensures.err
 
-pub operand::read_operand-returns-in_ok-read_overwrite-in-Overwrite-clause-ok : goal.operand::read_operand-returns-in_ok-read_overwrite-in-Overwrite-clause-ok
-operand::read_operand-returns-in_ok-read_overwrite-in-Overwrite-clause-ok t c = operand_read c.in-Overwrite.ensures c.in_ok-read_overwrite-in-Overwrite.ensures.ok
+pub operand::read_operand-returns-in-Overwrite-clause-ok : goal.operand::read_operand-returns-in-Overwrite-clause-ok
+operand::read_operand-returns-in-Overwrite-clause-ok t c = if_ok c.read_overwrite.result (λ f h. operand_read c.in-Overwrite.ensures h) c.read_overwrite.ensures.ok
 
-pub operand::read_operand-returns-in_err-read_overwrite-in-Overwrite-clause-err : goal.operand::read_operand-returns-in_err-read_overwrite-in-Overwrite-clause-err
-operand::read_operand-returns-in_err-read_overwrite-in-Overwrite-clause-err t c = relay _ _ _ (operand_deep c.in-Overwrite.ensures) c.in_err-read_overwrite-in-Overwrite.ensures.err c.from_residual-in_err-read_overwrite-in-Overwrite.ensures.1
+pub operand::read_operand-returns-in-Overwrite-clause-err : goal.operand::read_operand-returns-in-Overwrite-clause-err
+operand::read_operand-returns-in-Overwrite-clause-err t c = if_err c.read_overwrite.result (λ e s. says _ e (operand_deep c.in-Overwrite.ensures) s) c.read_overwrite.ensures.err
 
-pub operand::read_operand-returns-in_ok-read_block-in-Constructor-clause-ok : goal.operand::read_operand-returns-in_ok-read_block-in-Constructor-clause-ok
-operand::read_operand-returns-in_ok-read_block-in-Constructor-clause-ok t c = operand_read c.in-Constructor.ensures (constructor_read c.in_ok-read_block-in-Constructor.ensures.ok)
+pub operand::read_operand-returns-in-Constructor-clause-ok : goal.operand::read_operand-returns-in-Constructor-clause-ok
+operand::read_operand-returns-in-Constructor-clause-ok t c = if_ok c.read_block.result (λ f h. operand_read c.in-Constructor.ensures (constructor_read h)) c.read_block.ensures.ok
 
-pub operand::read_operand-returns-in_err-read_block-in-Constructor-clause-err : goal.operand::read_operand-returns-in_err-read_block-in-Constructor-clause-err
-operand::read_operand-returns-in_err-read_block-in-Constructor-clause-err t c = relay _ _ _ (λ x. operand_deep c.in-Constructor.ensures (constructor_deep x)) c.in_err-read_block-in-Constructor.ensures.err c.from_residual-in_err-read_block-in-Constructor.ensures.1
+pub operand::read_operand-returns-in-Constructor-clause-err : goal.operand::read_operand-returns-in-Constructor-clause-err
+operand::read_operand-returns-in-Constructor-clause-err t c = if_err c.read_block.result (λ e s. says _ e (λ x. operand_deep c.in-Constructor.ensures (constructor_deep x)) s) c.read_block.ensures.err
 
-pub operand::read_operand-returns-in_ok-read_parts-in-Application-clause-ok : goal.operand::read_operand-returns-in_ok-read_parts-in-Application-clause-ok
-operand::read_operand-returns-in_ok-read_parts-in-Application-clause-ok t c = operand_read c.in-Application.ensures (application_read c.in_ok-read_parts-in-Application.ensures.ok)
+pub operand::read_operand-returns-in-Application-clause-ok : goal.operand::read_operand-returns-in-Application-clause-ok
+operand::read_operand-returns-in-Application-clause-ok t c = if_ok c.read_parts.result (λ f h. operand_read c.in-Application.ensures (application_read h)) c.read_parts.ensures.ok
 
-pub operand::read_operand-returns-in_err-read_parts-in-Application-clause-err : goal.operand::read_operand-returns-in_err-read_parts-in-Application-clause-err
-operand::read_operand-returns-in_err-read_parts-in-Application-clause-err t c = relay _ _ _ (λ x. operand_deep c.in-Application.ensures (application_deep x)) c.in_err-read_parts-in-Application.ensures.err c.from_residual-in_err-read_parts-in-Application.ensures.1
+pub operand::read_operand-returns-in-Application-clause-err : goal.operand::read_operand-returns-in-Application-clause-err
+operand::read_operand-returns-in-Application-clause-err t c = if_err c.read_parts.result (λ e s. says _ e (λ x. operand_deep c.in-Application.ensures (application_deep x)) s) c.read_parts.ensures.err
 
 pub operand::read_worded-returns-in_err-head-clause-err : goal.operand::read_worded-returns-in_err-head-clause-err
 operand::read_worded-returns-in_err-head-clause-err t c = relay _ _ _ no_operand_room c.in_err-head.ensures.err c.from_residual.ensures.1
