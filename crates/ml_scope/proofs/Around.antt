@@ -8,31 +8,32 @@ use Rattle.ml_tree.specs.declared.reference.Ref.TheVariants as r
 use Rattle.ml_scope.specs.declared.found.Found.{Found}
 use Rattle.ml_scope.specs.declared.found.Found.TheVariants.{Names, NamesType, Variable, Anew, Lists, Offends, Itself, Opens, Closes}
 use Rattle.ml_scope.specs.Journal.{Journal, each}
-use Rattle.ml_scope.specs.Readings.{same_pair, used, Captured, with_capture, captures}
+use Rattle.ml_scope.specs.Captures.{same_pair, Captured}
+use Rattle.ml_scope.specs.CaptureWalk.{outward, step}
 
 -- the innermost of the first functions
 innermost : (around : List ℕ) (at : ℕ) → at < length around → reverse (take (at + 1) around) ≡ slice_index_or around at 0 ∷ reverse (take at around)
 innermost around at h = let e : at + 1 ≡ suc at = omega arith in rw (e, take-suc around at 0 h) (reverse-append (take at around) (slice_index_or around at 0 ∷ []))
 
-pub used_step : (around : List ℕ) (at : ℕ) (binder : ℕ) (captures : List (ℕ × ℕ)) → at < length around → used (reverse (take (at + 1) around)) binder captures ≡ (if nat_lt binder (slice_index_or around at 0) && not (list_any (same_pair (slice_index_or around at 0, binder)) captures) then used (reverse (take at around)) binder (captures ++ (slice_index_or around at 0, binder) ∷ []) else captures)
-used_step around at binder captures h = ap (λ fs. used fs binder captures) (innermost around at h)
+pub outward_step : (around : List ℕ) (at : ℕ) (binder : ℕ) (captures : List (ℕ × ℕ)) → at < length around → outward (reverse (take (at + 1) around)) binder captures ≡ (if nat_lt binder (slice_index_or around at 0) && not (list_any (same_pair (slice_index_or around at 0, binder)) captures) then outward (reverse (take at around)) binder (captures ++ (slice_index_or around at 0, binder) ∷ []) else captures)
+outward_step around at binder captures h = ap (λ fs. outward fs binder captures) (innermost around at h)
 
-pub used_none : (around : List ℕ) (binder : ℕ) (captures : List (ℕ × ℕ)) → used (reverse (take 0 around)) binder captures ≡ captures
-used_none around binder captures = refl
+pub outward_none : (around : List ℕ) (binder : ℕ) (captures : List (ℕ × ℕ)) → outward (reverse (take 0 around)) binder captures ≡ captures
+outward_none around binder captures = refl
 
-used_grows : (around : List ℕ) (binder : ℕ) (captures : List (ℕ × ℕ)) → length captures ≤ length (used around binder captures)
-used_grows [] binder captures = omega arith
-used_grows (f ∷ fs) binder captures = picked (nat_lt binder f && not (list_any (same_pair (f, binder)) captures)) (used_grows fs binder (captures ++ (f, binder) ∷ []))
+outward_grows : (around : List ℕ) (binder : ℕ) (captures : List (ℕ × ℕ)) → length captures ≤ length (outward around binder captures)
+outward_grows [] binder captures = omega arith
+outward_grows (f ∷ fs) binder captures = picked (nat_lt binder f && not (list_any (same_pair (f, binder)) captures)) (outward_grows fs binder (captures ++ (f, binder) ∷ []))
   where
-  picked : (b : Bool) → length (captures ++ (f, binder) ∷ []) ≤ length (used fs binder (captures ++ (f, binder) ∷ [])) → length captures ≤ length (if b then used fs binder (captures ++ (f, binder) ∷ []) else captures)
+  picked : (b : Bool) → length (captures ++ (f, binder) ∷ []) ≤ length (outward fs binder (captures ++ (f, binder) ∷ [])) → length captures ≤ length (if b then outward fs binder (captures ++ (f, binder) ∷ []) else captures)
   picked true h = omega (arith, h, length-append {A = ℕ × ℕ})
   picked false h = omega arith
 
-capture_grows : (found : Found) (c : Captured) → length c.captures ≤ length (with_capture found c).captures
+capture_grows : (found : Found) (c : Captured) → length c.captures ≤ length (step found c).captures
 capture_grows (Itself n) c = omega arith
 capture_grows (Opens n) c = omega arith
 capture_grows Closes c = omega arith
-capture_grows (Names n (r.Local b)) c = used_grows c.around b c.captures
+capture_grows (Names n (r.Local b)) c = outward_grows c.around b c.captures
 capture_grows (Names n (r.Top b)) c = omega arith
 capture_grows (Names n (r.Operation o)) c = omega arith
 capture_grows (Names n (r.Con d p)) c = omega arith
@@ -44,9 +45,9 @@ capture_grows Anew c = omega arith
 capture_grows (Lists s) c = omega arith
 capture_grows (Offends x) c = omega arith
 
-pub captures_grow : (js : Journal) (c : Captured) → length c.captures ≤ length (each (map with_capture js) c).captures
+pub captures_grow : (js : Journal) (c : Captured) → length c.captures ≤ length (each (map step js) c).captures
 captures_grow [] c = omega arith
-captures_grow (f ∷ js) c = omega (arith, capture_grows f c, captures_grow js (with_capture f c))
+captures_grow (f ∷ js) c = omega (arith, capture_grows f c, captures_grow js (step f c))
 
 pub opened : (around : List ℕ) (number : ℕ) → reverse (around ++ number ∷ []) ≡ number ∷ reverse around
 opened around number = reverse-append around (number ∷ [])

@@ -4,6 +4,7 @@ pub mod Layers
 pub mod ExpressionLayers
 pub mod Firsts
 pub mod Around
+pub mod Crossings
 pub mod Grows
 pub mod TypeGrows
 pub mod PatternGrows

@@ -1,11 +1,13 @@
 -- What a node names, found in a list that rises.
-use Rattle.std.proofs.Common.{◌≡◌, ℕ, zero, suc, ◌+◌, ◌-◌, ◌<◌, ◌≤◌, List, [], ◌∷◌, Option, Some, None, Bool, true, false, refl, sym, ap, ◌∙◌, subst, arith, slice_get, nat_eq, inl, inr}
+use Rattle.std.proofs.Common.{◌≡◌, ℕ, zero, suc, ◌+◌, ◌-◌, ◌<◌, ◌≤◌, List, [], ◌∷◌, Option, Some, None, Bool, true, false, refl, sym, ap, ◌∙◌, subst, arith, slice_get, nat_eq, nat_le, nat_lt, ◌&&◌, ◌||◌, map, inl, inr}
 use Rattle.std.proofs.lemmas.Bool.{cases_Bool, cond-true, cond-false}
-use Rattle.std.proofs.lemmas.Bool.Decides.{Decides-eqb}
+use Rattle.std.proofs.lemmas.Bool.Decides.{Decides-eqb, nat_tests}
 use Rattle.std.specs.Map.{lookup}
+use Rattle.std.specs.List.{list_any, range_with_len}
 use Rattle.ml_tree.specs.Rising.{Rises, Has}
 use Rattle.ml_tree.specs.declared.reference.Ref.{Ref}
-use Rattle.ml_scope.specs.FreeNames.{target_at, with_free, free_from, free_names}
+use Rattle.ml_scope.specs.FreeNames.{target_at, with_free, free_at, free_names}
+use Rattle.ml_scope.specs.Journal.{each}
 
 pub found_at : (refs : List (ℕ × Ref)) (node : ℕ) (target : Ref) → Rises refs → Has refs node target → target_at refs node ≡ Some target
 found_at [] node target rises has = absurd (let e = has.1 in cc)
@@ -25,8 +27,29 @@ none_at (x ∷ refs) node none = elim (cases_Bool (nat_eq node x.0)) [
     inl t ↦ (let same : x ≡ (node, x.1) = (let n : ℕ → ℕ × Ref = λ m. (m, x.1) in ap n (sym ((Decides-eqb node x.0).0 t))) in absurd (none x.1 (zero, ap Some same)))
   | inr f ↦ cond-false (nat_eq node x.0) (Some x.1) (target_at refs node) f ∙ none_at refs node (λ target has. none target (suc has.0, has.1)) ]
 
-pub free_step : (refs : List (ℕ × Ref)) (low high node : ℕ) (names : List ℕ) → node < high → free_from refs low high node (high - node) names ≡ free_from refs low high (node + 1) (high - (node + 1)) (with_free low high (target_at refs node) names)
-free_step refs low high node names h = ap (λ n. free_from refs low high node n names) (let e : high - node ≡ suc (high - (node + 1)) = omega (arith, h) in e)
+-- ---- the numbers from one up to another
 
-pub free_end : (refs : List (ℕ × Ref)) (low high node : ℕ) (names : List ℕ) → high ≤ node → free_from refs low high node (high - node) names ≡ names
-free_end refs low high node names h = ap (λ n. free_from refs low high node n names) (let e : high - node ≡ 0 = omega (arith, h) in e)
+among_step : (low n b : ℕ) → (nat_eq b low || (nat_le (low + 1) b && nat_lt b ((low + 1) + n))) ≡ (nat_le low b && nat_lt b (low + suc n))
+among_step low n b = grind (arith, nat_tests)
+
+among_none : (low b : ℕ) → false ≡ (nat_le low b && nat_lt b (low + 0))
+among_none low b = grind (arith, nat_tests)
+
+among_from : (low n b : ℕ) → list_any (nat_eq b) (range_with_len low n) ≡ (nat_le low b && nat_lt b (low + n))
+among_from low zero b = among_none low b
+among_from low (suc n) b = ap (λ t. nat_eq b low || t) (among_from (low + 1) n b) ∙ among_step low n b
+
+among_end : (low high b : ℕ) → (nat_le low b && nat_lt b (low + (high - low))) ≡ (nat_le low b && nat_lt b high)
+among_end low high b = grind (arith, nat_tests)
+
+pub among : (low high b : ℕ) → list_any (nat_eq b) (range_with_len low (high - low)) ≡ (nat_le low b && nat_lt b high)
+among low high b = among_from low (high - low) b ∙ among_end low high b
+
+pub free_step : (refs : List (ℕ × Ref)) (nodes : List ℕ) (node high : ℕ) (names : List ℕ) → node < high → each (map (free_at refs nodes) (range_with_len node (high - node))) names ≡ each (map (free_at refs nodes) (range_with_len (node + 1) (high - (node + 1)))) (with_free nodes (target_at refs node) names)
+free_step refs nodes node high names h = ap (λ n. each (map (free_at refs nodes) (range_with_len node n)) names) (let e : high - node ≡ suc (high - (node + 1)) = omega (arith, h) in e)
+
+pub free_end : (refs : List (ℕ × Ref)) (nodes : List ℕ) (node high : ℕ) (names : List ℕ) → high ≤ node → each (map (free_at refs nodes) (range_with_len node (high - node))) names ≡ names
+free_end refs nodes node high names h = ap (λ n. each (map (free_at refs nodes) (range_with_len node n)) names) (let e : high - node ≡ 0 = omega (arith, h) in e)
+
+pub nodes_between : (refs : List (ℕ × Ref)) (nodes : List ℕ) (low count : ℕ) → nodes ≡ range_with_len low count → free_names refs (range_with_len low ((low + count) - low)) ≡ free_names refs nodes
+nodes_between refs nodes low count e = let less : (low + count) - low ≡ count = omega arith in ap (λ n. free_names refs (range_with_len low n)) less ∙ ap (free_names refs) (sym e)

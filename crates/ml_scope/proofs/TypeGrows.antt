@@ -19,13 +19,13 @@ abbrev Look : Type 0
 Look = Journal → Journal
 
 abbrev KindGrows : Known → TyKind → Type 0
-KindGrows k x = (id : ℕ) → Adds (type_kind_look k x id) (joined (type_id id) (I.type_kind_ids x))
+KindGrows k x = (id : ℕ) → Adds false (type_kind_look k x id) (joined (type_id id) (I.type_kind_ids x))
 
 abbrev ArgGrows : Known → Arg → Type 0
-ArgGrows k x = Adds (arg_look k x) (I.arg_ids x)
+ArgGrows k x = Adds false (arg_look k x) (I.arg_ids x)
 
 abbrev TypeGrows : Known → TyExpr → Type 0
-TypeGrows k x = Adds (type_look k x) (I.type_ids x)
+TypeGrows k x = Adds false (type_look k x) (I.type_ids x)
 
 abbrev Kinds : Known → Type 0
 Kinds k = (x : TyKind) × KindGrows k x
@@ -36,12 +36,12 @@ Args k = (x : Arg) × ArgGrows k x
 abbrev Types : Known → Type 0
 Types k = (x : TyExpr) × TypeGrows k x
 
-meant : (id : ℕ) (place : Span) (o : Option Meaning) → Adds (type_meant id place o) (type_id id)
+meant : (id : ℕ) (place : Span) (o : Option Meaning) → Adds false (type_meant id place o) (type_id id)
 meant id place None = adds_offence UnboundType place (type_id id)
 meant id place (Some m) = adds_type id m.declaration
 
 module _ (k : Known) where
-  named : (id : ℕ) (name : Span) → Adds (type_named k id name) (type_id id)
+  named : (id : ℕ) (name : Span) → Adds false (type_named k id name) (type_id id)
   named id name = meant id name (find k.types (spelling k.text name))
 
   abbrev layer_kind : TyKind-F (Kinds k) (Args k) (Types k) → TyKind-F TyKind Arg TyExpr
@@ -59,7 +59,7 @@ module _ (k : Known) where
   abbrev ids_kind : TyKind-F TyKind Arg TyExpr → Ids
   ids_kind l = I.type_step (map-TyKind TyKind Arg TyExpr Ids Ids Ids I.type_kind_ids I.arg_ids I.type_ids l)
 
-  kind_grows : (y : TyKind-F (Kinds k) (Args k) (Types k)) (id : ℕ) → Adds (look_kind (layer_kind y) id) (joined (type_id id) (ids_kind (layer_kind y)))
+  kind_grows : (y : TyKind-F (Kinds k) (Args k) (Types k)) (id : ℕ) → Adds false (look_kind (layer_kind y) id) (joined (type_id id) (ids_kind (layer_kind y)))
   kind_grows (t.Var name) id = adds_then (adds_variable id name) (adds_none no_ids)
   kind_grows (t.Con name args) id = adds_then (named id name) (adds_parts (type_look k) I.type_ids (λ x h. h) args)
   kind_grows (t.Tuple parts) id = adds_behind (type_id id) (adds_parts (type_look k) I.type_ids (λ x h. h) parts)
@@ -73,24 +73,24 @@ module _ (k : Known) where
 
   kind_case : (l : TyKind-F TyKind Arg TyExpr) (y : TyKind-F (Kinds k) (Args k) (Types k)) → layer_kind y ≡ l → KindGrows k (roll-TyKind l)
   kind_case l y same = λ id.
-      subst (λ (f : ℕ → Look). Adds (f id) (joined (type_id id) (I.type_kind_ids (roll-TyKind l)))) (sym (kind_at l))
-      (subst (λ (i : Ids). Adds (look_kind l id) (joined (type_id id) i)) (sym (kind_ids_at l))
-      (subst (λ (l : TyKind-F TyKind Arg TyExpr). Adds (look_kind l id) (joined (type_id id) (ids_kind l))) same (kind_grows y id)))
+      subst (λ (f : ℕ → Look). Adds false (f id) (joined (type_id id) (I.type_kind_ids (roll-TyKind l)))) (sym (kind_at l))
+      (subst (λ (i : Ids). Adds false (look_kind l id) (joined (type_id id) i)) (sym (kind_ids_at l))
+      (subst (λ (l : TyKind-F TyKind Arg TyExpr). Adds false (look_kind l id) (joined (type_id id) (ids_kind l))) same (kind_grows y id)))
 
   arg_case : (l : Arg-F TyKind Arg TyExpr) (y : Arg-F (Kinds k) (Args k) (Types k)) → layer_arg y ≡ l → ArgGrows k (roll-Arg l)
   arg_case l y same =
-      subst (λ (f : Look). Adds f (I.arg_ids (roll-Arg l))) (sym (fold-roll-Arg (ℕ → Look) Look Look (type_step k) (arg_step k) (type_node k) l))
-      (subst (λ (i : Ids). Adds (type_look k l.ty) i) (sym (fold-roll-Arg Ids Ids Ids I.type_step I.arg_step I.type_node l))
-      (subst (λ (l : Arg-F TyKind Arg TyExpr). Adds (type_look k l.ty) (I.type_ids l.ty)) same y.ty.1))
+      subst (λ (f : Look). Adds false f (I.arg_ids (roll-Arg l))) (sym (fold-roll-Arg (ℕ → Look) Look Look (type_step k) (arg_step k) (type_node k) l))
+      (subst (λ (i : Ids). Adds false (type_look k l.ty) i) (sym (fold-roll-Arg Ids Ids Ids I.type_step I.arg_step I.type_node l))
+      (subst (λ (l : Arg-F TyKind Arg TyExpr). Adds false (type_look k l.ty) (I.type_ids l.ty)) same y.ty.1))
 
   type_case : (l : TyExpr-F TyKind Arg TyExpr) (y : TyExpr-F (Kinds k) (Args k) (Types k)) → layer_type y ≡ l → TypeGrows k (roll-TyExpr l)
   type_case l y same =
-      subst (λ (f : Look). Adds f (I.type_ids (roll-TyExpr l))) (sym (fold-roll-TyExpr (ℕ → Look) Look Look (type_step k) (arg_step k) (type_node k) l))
-      (subst (λ (i : Ids). Adds (type_kind_look k l.kind l.id) i) (sym (fold-roll-TyExpr Ids Ids Ids I.type_step I.arg_step I.type_node l))
-      (subst (λ (l : TyExpr-F TyKind Arg TyExpr). Adds (type_kind_look k l.kind l.id) (joined (type_id l.id) (I.type_kind_ids l.kind))) same (y.kind.1 y.id)))
+      subst (λ (f : Look). Adds false f (I.type_ids (roll-TyExpr l))) (sym (fold-roll-TyExpr (ℕ → Look) Look Look (type_step k) (arg_step k) (type_node k) l))
+      (subst (λ (i : Ids). Adds false (type_kind_look k l.kind l.id) i) (sym (fold-roll-TyExpr Ids Ids Ids I.type_step I.arg_step I.type_node l))
+      (subst (λ (l : TyExpr-F TyKind Arg TyExpr). Adds false (type_kind_look k l.kind l.id) (joined (type_id l.id) (I.type_kind_ids l.kind))) same (y.kind.1 y.id)))
 
-  pub type_grows : (x : TyExpr) → Adds (type_look k x) (I.type_ids x)
+  pub type_grows : (x : TyExpr) → Adds false (type_look k x) (I.type_ids x)
   type_grows x = ind-TyExpr (KindGrows k) (ArgGrows k) (TypeGrows k) kind_case arg_case type_case x
 
-  pub arg_grows : (x : Arg) → Adds (arg_look k x) (I.arg_ids x)
+  pub arg_grows : (x : Arg) → Adds false (arg_look k x) (I.arg_ids x)
   arg_grows x = ind-Arg (KindGrows k) (ArgGrows k) (TypeGrows k) kind_case arg_case type_case x

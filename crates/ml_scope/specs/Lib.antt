@@ -9,5 +9,7 @@ pub mod Binding
 pub mod Expressions
 pub mod Items
 pub mod Readings
+pub mod Captures
+pub mod CaptureWalk
 pub mod Resolving
 pub mod FreeNames

@@ -85,30 +85,3 @@ noted first _ = first
 abbrev pub earliest : Option Refusal → Journal → Option Refusal
 earliest first [] = first
 earliest first (found ∷ js) = earliest (noted first found) js
-
--- ---- captures
-
-abbrev pub same_pair : ℕ × ℕ → ℕ × ℕ → Bool
-same_pair p q = nat_eq p.0 q.0 && nat_eq p.1 q.1
-
--- a use of a local name: each function around it, from the innermost on, up to that in which the binder stands, captures the name, once; where one has captured it before, so have those around it
-abbrev pub used : List ℕ → ℕ → List (ℕ × ℕ) → List (ℕ × ℕ)
-used [] binder captures = captures
-used (function ∷ around) binder captures = if nat_lt binder function && not (list_any (same_pair (function, binder)) captures) then used around binder (captures ++ (function, binder) ∷ []) else captures
-
--- the functions around, the innermost first; the binder that names the next; and each function with each local name that it captures, once
-pub record Captured : Type 0 where
-  pub around : List ℕ
-  pub itself : Option ℕ
-  pub captures : List (ℕ × ℕ)
-
--- names below a function's number are bound outside it; a recursive function goes by the number of the binder that names it, so that it does not capture itself
-abbrev pub with_capture : Found → Captured → Captured
-with_capture (Itself node) c = record { around = c.around; itself = Some node; captures = c.captures }
-with_capture (Opens node) c = record { around = unwrap_or c.itself node ∷ c.around; itself = None; captures = c.captures }
-with_capture Closes c = record { around = drop 1 c.around; itself = c.itself; captures = c.captures }
-with_capture (Names node (r.Local binder)) c = record { around = c.around; itself = c.itself; captures = used c.around binder c.captures }
-with_capture _ c = c
-
-abbrev pub captures : Journal → List (ℕ × ℕ)
-captures js = (each (map with_capture js) (record { around = []; itself = None; captures = [] })).captures

@@ -9,7 +9,8 @@ use Rattle.ml_scope.specs.declared.scoping.ScopeErr.TheVariants.{Refused, Limit 
 use Rattle.ml_scope.specs.declared.scoping.Targets.{Targets}
 use Rattle.ml_scope.specs.Journal.{Journal}
 use Rattle.ml_scope.specs.Items.{program_look}
-use Rattle.ml_scope.specs.Readings.{references, type_references, offences, IsFirst, captures}
+use Rattle.ml_scope.specs.Readings.{references, type_references, offences, IsFirst}
+use Rattle.ml_scope.specs.Captures.{captures}
 
 -- what is found in a program
 abbrev pub found_in : List ℕ → List Item → Journal

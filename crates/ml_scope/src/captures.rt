@@ -1,6 +1,6 @@
 //! The captures of functions.
 ghost use Rattle.std.specs.Prelude.{◌≡◌, ◌<◌, ◌≤◌, ◌∷◌, [], None, true, false, drop, IfOk, OnOk, length, reverse};
-ghost use Rattle.ml_scope.specs.Readings.{used, with_capture, captures};
+ghost use Rattle.ml_scope.specs.CaptureWalk.{outward, step, walked};
 
 use crate::found::Found;
 use indexmap::IndexSet;
@@ -26,7 +26,7 @@ struct Capturing {
 
 impl Model for Capturing {
     ghost use Rattle.std.specs.Prelude.{reverse};
-    ghost use Rattle.ml_scope.specs.Readings.{Captured};
+    ghost use Rattle.ml_scope.specs.Captures.{Captured};
 
     ghost Value = { Captured };
 
@@ -35,13 +35,13 @@ impl Model for Capturing {
 
 /// A use of a local name: each function around it, from the innermost on, up to that in which the
 /// binder stands, captures the name. Where one has captured it before, so have those around it.
-#[tactic(auto, using(crate::proofs::Around::used_step, crate::proofs::Around::used_none))]
+#[tactic(auto, using(crate::proofs::Around::outward_step, crate::proofs::Around::outward_none))]
 fn use_name(
     around: &[u32],
     binder: u32,
     captures: &mut IndexSet<(u32, u32)>,
 ) -> Result<(), NoMemory>
-    ensures { OnOk result (captures.new.keys ≡ used (reverse around.now) binder captures.old.keys) }
+    ensures { OnOk result (captures.new.keys ≡ outward (reverse around.now) binder captures.old.keys) }
 {
     let mut at = around.len();
     while at > 0 {
@@ -96,7 +96,7 @@ impl Capturing {
     }
 
     fn note(&mut self, found: Found) -> Result<(), NoMemory>
-        ensures { OnOk result (self.new ≡ with_capture found self.old) }
+        ensures { OnOk result (self.new ≡ step found self.old) }
     {
         match found {
             Found::Itself(node) => {
@@ -123,8 +123,8 @@ impl Capturing {
 /// Whether the functions of a program have more captures together than they may.
 #[tactic(auto, using(crate::proofs::Around::captures_grow))]
 pub fn too_many_captures(alloc: Global, journal: &[Found]) -> Result<bool, NoMemory>
-    ensures many { IfOk result (λ many. many ≡ true → 100000 < length (captures journal.now)) }
-    ensures few { IfOk result (λ many. many ≡ false → length (captures journal.now) ≤ 100000) }
+    ensures many { IfOk result (λ many. many ≡ true → 100000 < length (walked journal.now)) }
+    ensures few { IfOk result (λ many. many ≡ false → length (walked journal.now) ≤ 100000) }
 {
     let mut capturing = Capturing::new(alloc);
     for found in journal {

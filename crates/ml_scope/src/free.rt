@@ -1,6 +1,8 @@
 //! The names that an expression uses and does not bind.
-ghost use Rattle.std.specs.Prelude.{◌≡◌, ◌+◌, ◌<◌, ◌^◌, IfOk, OnOk};
+ghost use Rattle.std.specs.Prelude.{◌≡◌, ◌+◌, ◌-◌, ◌<◌, ◌^◌, IfOk, OnOk, nat_eq};
+ghost use Rattle.std.specs.List.{list_any, range_with_len};
 ghost use Rattle.ml_tree.specs.Nodes.{expr_nodes};
+ghost use Rattle.ml_numbers.specs.Ids.{expr_ids};
 ghost use Rattle.ml_scope.specs.FreeNames.{target_at, with_free, free_names};
 
 use indexmap::IndexSet;
@@ -19,6 +21,14 @@ fn target_at(s: &Scoped, node: u32) -> Option<Ref>
     }
 }
 
+/// Whether a number is one of those from `low` up to but not including `high`.
+#[tactic(auto, using(crate::proofs::Targets::among))]
+fn is_among(low: u32, high: u32, number: u32) -> bool
+    ensures { result ≡ list_any (nat_eq number) (range_with_len low (high - low)) }
+{
+    low <= number && number < high
+}
+
 /// One name more, if it is a local name whose binder has none of the numbers from `low` up to but
 /// not including `high`.
 fn with_free(
@@ -27,11 +37,11 @@ fn with_free(
     target: Option<Ref>,
     names: &mut IndexSet<u32>,
 ) -> Result<(), NoMemory>
-    ensures { OnOk result (names.new.keys ≡ with_free low high target names.old.keys) }
+    ensures { OnOk result (names.new.keys ≡ with_free (range_with_len low (high - low)) target names.old.keys) }
 {
     match target {
         Some(Ref::Local(binder)) => {
-            if binder < low || high <= binder {
+            if !is_among(low, high, binder) {
                 names.insert_full(binder)?;
             }
             Ok(())
@@ -40,19 +50,32 @@ fn with_free(
     }
 }
 
-/// The local names that `e` uses and that are bound outside it, by the numbers of their binders,
-/// each once, in the order of first use. The program is numbered in the order of the source, so the
-/// nodes of `e` are those from its number on.
+/// The local names that the nodes from `low` up to but not including `high` use and that are bound
+/// at none of them.
 #[tactic(auto, using(crate::proofs::Targets::free_step, crate::proofs::Targets::free_end))]
-pub fn free_names(alloc: Global, s: &Scoped, e: &Expr) -> Result<Items<u32>, NoMemory>
-    requires { e.now.id + expr_nodes e.now < 2 ^ 32 }
-    ensures { IfOk result (λ names. names ≡ free_names s.now.refs e.now.id (e.now.id + expr_nodes e.now)) }
+fn free_between(
+    alloc: Global,
+    s: &Scoped,
+    low: u32,
+    high: u32,
+) -> Result<Items<u32>, NoMemory>
+    ensures { IfOk result (λ names. names ≡ free_names s.now.refs (range_with_len low (high - low))) }
 {
-    let low = e.id;
-    let high = low + nodes(e);
     let mut names = IndexSet::new(alloc);
     for node in low..high {
         with_free(low, high, target_at(s, node), &mut names)?;
     }
     Ok(Items::from_slice(alloc, names.as_slice())?)
+}
+
+/// The local names that `e` uses and that are bound outside it, by the numbers of their binders,
+/// each once, in the order of first use. The nodes of `e` are numbered in the order of the source,
+/// as those of each part of a numbered program are.
+#[tactic(auto, using(crate::proofs::Targets::nodes_between))]
+pub fn free_names(alloc: Global, s: &Scoped, e: &Expr) -> Result<Items<u32>, NoMemory>
+    requires below { e.now.id + expr_nodes e.now < 2 ^ 32 }
+    requires in_order { (expr_ids e.now).nodes ≡ range_with_len e.now.id (expr_nodes e.now) }
+    ensures { IfOk result (λ names. names ≡ free_names s.now.refs (expr_ids e.now).nodes) }
+{
+    free_between(alloc, s, e.id, e.id + nodes(e))
 }

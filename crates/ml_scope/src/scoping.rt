@@ -1,7 +1,8 @@
 //! The names of a program, resolved.
 ghost use Rattle.std.specs.Prelude.{◌≡◌, IfOk, IfErr};
 ghost use Rattle.ml_numbers.specs.Ids.{IsNumbered};
-ghost use Rattle.ml_scope.specs.Resolving.{IsResolved, Explains, HasNames};
+ghost use Rattle.ml_scope.specs.Captures.{OpensRise};
+ghost use Rattle.ml_scope.specs.Resolving.{IsResolved, Explains, HasNames, found_in};
 
 use crate::captures::{MOST_CAPTURES, too_many_captures};
 use crate::items::program;
@@ -30,8 +31,11 @@ pub struct Targets {
     pub types: Items<(u32, TyRef)>,
 }
 
-#[tactic(auto, using(crate::proofs::Firsts::first_is, crate::proofs::Firsts::none_is))]
+/// What the nodes and the type expressions of items name. The functions of the items begin in the
+/// order of their numbers.
+#[tactic(auto, using(crate::proofs::Firsts::first_is, crate::proofs::Firsts::none_is, crate::proofs::Crossings::many_walked, crate::proofs::Crossings::few_walked))]
 fn found_names(alloc: Global, text: &[u8], items: &[Item]) -> Result<Targets, ScopeErr>
+    requires { OpensRise (found_in text.now items.now) }
     ensures ok { IfOk result (HasNames text.now items.now) }
     ensures err { IfErr result (Explains text.now items.now) }
 {
@@ -60,7 +64,7 @@ fn found_names(alloc: Global, text: &[u8], items: &[Item]) -> Result<Targets, Sc
 /// The program with what its names stand for. The text is the file's bytes followed by the
 /// prelude's, over which the spans count. The nodes of the program are numbered in the order of the
 /// source.
-#[tactic(auto, using(crate::proofs::ProgramGrows::refs_rise, crate::proofs::ProgramGrows::types_rise))]
+#[tactic(auto, using(crate::proofs::ProgramGrows::opens_rise, crate::proofs::ProgramGrows::refs_rise, crate::proofs::ProgramGrows::types_rise))]
 pub fn resolve(alloc: Global, text: &[u8], p: Program) -> Result<Scoped, ScopeErr>
     requires { IsNumbered p }
     ensures ok { IfOk result (IsResolved text.now p) }

@@ -1,6 +1,8 @@
 //! Small programs, whose references and first offences were worked out by hand.
 ghost use Rattle.std.specs.Prelude.{◌≡◌};
+ghost use Rattle.std.specs.List.{range_with_len};
 ghost use Rattle.ml_tree.specs.Nodes.{expr_nodes};
+ghost use Rattle.ml_numbers.specs.Ids.{expr_ids};
 
 use crate::{ScopeErr, free_names, resolve};
 use ml_numbers::number;
@@ -32,6 +34,7 @@ fn binder(place: Span) -> Pat {
 fn use_of(id: u32, place: Span) -> Expr
     ensures id { result.id ≡ id }
     ensures nodes { expr_nodes result ≡ 1 }
+    ensures in_order { (expr_ids result).nodes ≡ range_with_len id 1 }
 {
     Expr {
         id,

@@ -1,7 +1,7 @@
 use Rattle.std.proofs.Common.{◌≡◌, ◌+◌, ◌++◌, map, drop, [], None, length, take, reverse}
 use Rattle.ml_scope.specs.Journal.{each}
-use Rattle.ml_scope.specs.Readings.{with_capture}
+use Rattle.ml_scope.specs.CaptureWalk.{step}
 use Rattle.ml_scope.proofs.captures.too_many_captures.Given as goal
 
 abbrev pub invariant-loop-found : goal.invariant-loop-found
-invariant-loop-found l = each (map with_capture (drop l.found-index l.journal)) l.capturing ≡ each (map with_capture l.journal) (record { around = []; itself = None; captures = [] })
+invariant-loop-found l = each (map step (drop l.found-index l.journal)) l.capturing ≡ each (map step l.journal) (record { around = []; itself = None; captures = [] })
