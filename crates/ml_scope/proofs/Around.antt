@@ -1,7 +1,7 @@
 -- The functions around a use, walked from the innermost on.
 use Rattle.std.proofs.Common.{◌≡◌, ℕ, zero, suc, ◌+◌, ◌<◌, ◌≤◌, List, [], ◌∷◌, ◌++◌, Option, Some, None, Bool, true, false, ◌&&◌, not, nat_lt, if◌then◌else◌, refl, sym, ap, ◌∙◌, subst, arith, take, drop, reverse, length, map, slice_index_or, length-append, inl, inr}
 use Rattle.std.specs.List.{list_any}
-use Rattle.std.proofs.lemmas.List.{reverse-append}
+use Rattle.std.proofs.lemmas.List.{reverse-append, drop_all}
 use Rattle.std.proofs.lemmas.Bool.{cases_Bool}
 use Rattle.std.proofs.Math.Seq.{take-suc}
 use Rattle.ml_tree.specs.declared.reference.Ref.TheVariants as r
@@ -45,9 +45,18 @@ capture_grows Anew c = omega arith
 capture_grows (Lists s) c = omega arith
 capture_grows (Offends x) c = omega arith
 
-pub captures_grow : (js : Journal) (c : Captured) → length c.captures ≤ length (each (map step js) c).captures
+captures_grow : (js : Journal) (c : Captured) → length c.captures ≤ length (each (map step js) c).captures
 captures_grow [] c = omega arith
 captures_grow (f ∷ js) c = omega (arith, capture_grows f c, captures_grow js (step f c))
+
+-- what is captured so far is among all that is
+pub many_so_far : (js rest : Journal) (c start : Captured) → each (map step rest) c ≡ each (map step js) start → 100000 < length c.captures → 100000 < length (each (map step js) start).captures
+many_so_far js rest c start e h = let g = captures_grow rest c in subst (λ (d : Captured). 100000 < length d.captures) e (omega (arith, g, h))
+
+pub few_at_end : (js : Journal) (k : ℕ) (c start : Captured) → length js ≤ k → each (map step (drop k js)) c ≡ each (map step js) start → length c.captures ≤ 100000 → length (each (map step js) start).captures ≤ 100000
+few_at_end js k c start h e few =
+    let all : c ≡ each (map step js) start = ap (λ (rest : Journal). each (map step rest) c) (sym (drop_all k js h)) ∙ e in
+    subst (λ (d : Captured). length d.captures ≤ 100000) all few
 
 pub opened : (around : List ℕ) (number : ℕ) → reverse (around ++ number ∷ []) ≡ number ∷ reverse around
 opened around number = reverse-append around (number ∷ [])

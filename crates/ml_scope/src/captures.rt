@@ -89,10 +89,12 @@ impl Capturing {
         }
     }
 
-    fn count(&self) -> usize
-        ensures { result ≡ length self.now.captures }
+    /// Whether there are more captures than a program may have.
+    fn is_past_limit(&self) -> bool
+        ensures many { result ≡ true → 100000 < length self.now.captures }
+        ensures few { result ≡ false → length self.now.captures ≤ 100000 }
     {
-        self.captures.len()
+        self.captures.len() > MOST_CAPTURES
     }
 
     fn note(&mut self, found: Found) -> Result<(), NoMemory>
@@ -121,17 +123,17 @@ impl Capturing {
 }
 
 /// Whether the functions of a program have more captures together than they may.
-#[tactic(auto, using(crate::proofs::Around::captures_grow))]
+#[tactic(auto, using(crate::proofs::Around::many_so_far, crate::proofs::Around::few_at_end))]
 pub fn too_many_captures(alloc: Global, journal: &[Found]) -> Result<bool, NoMemory>
     ensures many { IfOk result (λ many. many ≡ true → 100000 < length (walked journal.now)) }
     ensures few { IfOk result (λ many. many ≡ false → length (walked journal.now) ≤ 100000) }
 {
     let mut capturing = Capturing::new(alloc);
     for found in journal {
-        capturing.note(*found)?;
-        if capturing.count() > MOST_CAPTURES {
+        if capturing.is_past_limit() {
             return Ok(true);
         }
+        capturing.note(*found)?;
     }
-    Ok(false)
+    Ok(capturing.is_past_limit())
 }

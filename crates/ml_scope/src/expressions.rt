@@ -1,5 +1,5 @@
 //! What expressions use, in the scope in which they stand.
-ghost use Rattle.std.specs.Prelude.{◌≡◌, [], false, map, OnOk};
+ghost use Rattle.std.specs.Prelude.{◌≡◌, ◌-◌, [], false, map, drop, length, OnOk};
 ghost use Rattle.std.specs.Option.{option_map};
 ghost use Rattle.ml_scope.specs.Journal.{each, perhaps};
 ghost use Rattle.ml_scope.specs.Binding.{bound};
@@ -88,7 +88,9 @@ fn expression_kind(
         } => {
             let left_out = both(*recursive, binds.len() > 1);
             offence_where(left_out, Rule::LeftOut, span, journal)?;
-            local_let(known, *recursive, binds.as_slice(), body.get(), scope, journal)
+            let outer = scope.len();
+            group(known, false, *recursive, binds.as_slice(), scope, journal)?;
+            let_body(known, outer, body.get(), scope, journal)
         }
         ExprKind::Match(scrutinee, list) => {
             expression(known, scrutinee.get(), scope, journal)?;
@@ -169,24 +171,21 @@ fn inside(
     Ok(())
 }
 
-/// A `let` that is no item: its names are in scope in its body.
+/// The body of a `let` that is no item; behind it the names are out of scope again, so that `outer`
+/// binders are left.
 #[cycle(expressions)]
-#[tactic(auto, using(crate::proofs::Leaving::bound_left))]
-fn local_let(
+fn let_body(
     known: &Known,
-    recursive: bool,
-    binds: &[Bind],
+    outer: usize,
     body: &Expr,
     scope: &mut Scope,
     journal: &mut Items<Found>,
 ) -> Result<(), NoMemory>
-    ensures scope { OnOk result (scope.new ≡ scope.old) }
-    ensures journal { OnOk result (journal.new ≡ (expr_seen known.now body.now).look (bound known.now false (bind_names known.now (map (bind_seen known.now) binds.now)) scope.old) (group_look known.now false recursive (map (bind_seen known.now) binds.now) scope.old journal.old)) }
+    ensures scope { OnOk result (scope.new ≡ drop (length scope.old - outer) scope.old) }
+    ensures journal { OnOk result (journal.new ≡ (expr_seen known.now body.now).look scope.old journal.old) }
 {
-    let count = scope.len();
-    group(known, false, recursive, binds, scope, journal)?;
     expression(known, body, scope, journal)?;
-    scope.leave(count);
+    scope.leave(outer);
     Ok(())
 }
 
