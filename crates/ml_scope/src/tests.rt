@@ -34,7 +34,7 @@ fn binder(place: Span) -> Pat {
 fn use_of(id: u32, place: Span) -> Expr
     ensures id { result.id ≡ id }
     ensures nodes { expr_nodes result ≡ 1 }
-    ensures in_order { (expr_ids result).nodes ≡ range_with_len id 1 }
+    ensures in_order { (expr_ids result).nodes ≡ range_with_len result.id (expr_nodes result) }
 {
     Expr {
         id,
