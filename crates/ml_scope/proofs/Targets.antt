@@ -11,15 +11,15 @@ use Rattle.ml_scope.specs.Journal.{each}
 
 pub found_at : (refs : List (ℕ × Ref)) (node : ℕ) (target : Ref) → Rises refs → Has refs node target → target_at refs node ≡ Some target
 found_at [] node target rises has = absurd (let e = has.1 in cc)
-found_at (x ∷ refs) node target rises has = at has.0 has.1
+found_at (x ∷ refs) node target rises has = at (λ k e. found_at refs node target (tail rises) (k, e)) has.0 has.1
   where
   tail : Rises (x ∷ refs) → Rises refs
   tail rises = λ i j p q h e f. rises (suc i) (suc j) p q (omega (arith, h)) e f
-  at : (k : ℕ) → slice_get (x ∷ refs) k ≡ Some (node, target) → target_at (x ∷ refs) node ≡ Some target
-  at zero e = (let same : x ≡ (node, target) = cc in let t : nat_eq node x.0 ≡ true = (Decides-eqb node x.0).1 (sym (ap (λ p. p.0) same)) in cond-true (nat_eq node x.0) (Some x.1) (target_at refs node) t ∙ ap (λ p. Some p.1) same)
-  at (suc k) e = elim (cases_Bool (nat_eq node x.0)) [
+  at : ((k : ℕ) → slice_get refs k ≡ Some (node, target) → target_at refs node ≡ Some target) → (k : ℕ) → slice_get (x ∷ refs) k ≡ Some (node, target) → target_at (x ∷ refs) node ≡ Some target
+  at rest zero e = (let same : x ≡ (node, target) = cc in let t : nat_eq node x.0 ≡ true = (Decides-eqb node x.0).1 (sym (ap (λ p. p.0) same)) in cond-true (nat_eq node x.0) (Some x.1) (target_at refs node) t ∙ ap (λ p. Some p.1) same)
+  at rest (suc k) e = elim (cases_Bool (nat_eq node x.0)) [
       inl t ↦ (let same : node ≡ x.0 = (Decides-eqb node x.0).0 t in let below : x.0 < node = rises zero (suc k) x (node, target) (omega arith) refl e in absurd (omega (arith, same, below)))
-    | inr f ↦ cond-false (nat_eq node x.0) (Some x.1) (target_at refs node) f ∙ found_at refs node target (tail rises) (k, e) ]
+    | inr f ↦ cond-false (nat_eq node x.0) (Some x.1) (target_at refs node) f ∙ rest k e ]
 
 pub none_at : (refs : List (ℕ × Ref)) (node : ℕ) → ((target : Ref) → Has refs node target → ⊥) → target_at refs node ≡ None
 none_at [] node none = refl
