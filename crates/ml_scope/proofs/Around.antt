@@ -25,9 +25,9 @@ outward_grows : (around : List ℕ) (binder : ℕ) (captures : List (ℕ × ℕ)
 outward_grows [] binder captures = omega arith
 outward_grows (f ∷ fs) binder captures = picked (nat_lt binder f && not (list_any (same_pair (f, binder)) captures)) (outward_grows fs binder (captures ++ (f, binder) ∷ []))
   where
-  picked : (b : Bool) → length (captures ++ (f, binder) ∷ []) ≤ length (outward fs binder (captures ++ (f, binder) ∷ [])) → length captures ≤ length (if b then outward fs binder (captures ++ (f, binder) ∷ []) else captures)
-  picked true h = omega (arith, h, length-append {A = ℕ × ℕ})
-  picked false h = omega arith
+    picked : (b : Bool) → length (captures ++ (f, binder) ∷ []) ≤ length (outward fs binder (captures ++ (f, binder) ∷ [])) → length captures ≤ length (if b then outward fs binder (captures ++ (f, binder) ∷ []) else captures)
+    picked true h = omega (arith, h, length-append {A = ℕ × ℕ})
+    picked false h = omega arith
 
 capture_grows : (found : Found) (c : Captured) → length c.captures ≤ length (step found c).captures
 capture_grows (Itself n) c = omega arith

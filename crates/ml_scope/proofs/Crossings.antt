@@ -34,27 +34,29 @@ has_last p ps = list_any-append (same_pair p) ps (p ∷ []) ∙ or_right (list_a
 
 has_either : (p q : ℕ × ℕ) (ps : Pairs) → Has p (ps ++ q ∷ []) → Has p ps ⊎ ((p.0 ≡ q.0) × (p.1 ≡ q.1))
 has_either p q ps h = elim (or_cases (list_any (same_pair p) ps) (list_any (same_pair p) (q ∷ [])) (sym (list_any-append (same_pair p) ps (q ∷ [])) ∙ h)) [
-    inl t ↦ inl t
-  | inr t ↦ elim (or_cases (same_pair p q) false t) [ inl s ↦ inr (same_is p q s) | inr f ↦ absurd cc ] ]
+  | inl t ↦ inl t
+  | inr t ↦ elim (or_cases (same_pair p q) false t) [ inl s ↦ inr (same_is p q s) | inr f ↦ absurd cc ]
+]
 
 once_keeps : (p q : ℕ × ℕ) (ps : Pairs) → Has p ps → Has p (once q ps)
 once_keeps p q ps h = kept (list_any (same_pair q) ps)
   where
-  kept : (b : Bool) → Has p (if b then ps else ps ++ q ∷ [])
-  kept true = h
-  kept false = has_more p ps (q ∷ []) h
+    kept : (b : Bool) → Has p (if b then ps else ps ++ q ∷ [])
+    kept true = h
+    kept false = has_more p ps (q ∷ []) h
 
 once_has : (p : ℕ × ℕ) (ps : Pairs) → Has p (once p ps)
 once_has p ps = elim (cases_Bool (list_any (same_pair p) ps)) [
-    inl t ↦ subst (Has p) (sym (cond-true (list_any (same_pair p) ps) ps (ps ++ p ∷ []) t)) t
-  | inr f ↦ subst (Has p) (sym (cond-false (list_any (same_pair p) ps) ps (ps ++ p ∷ []) f)) (has_last p ps) ]
+  | inl t ↦ subst (Has p) (sym (cond-true (list_any (same_pair p) ps) ps (ps ++ p ∷ []) t)) t
+  | inr f ↦ subst (Has p) (sym (cond-false (list_any (same_pair p) ps) ps (ps ++ p ∷ []) f)) (has_last p ps)
+]
 
 once_either : (p q : ℕ × ℕ) (ps : Pairs) → Has p (once q ps) → Has p ps ⊎ ((p.0 ≡ q.0) × (p.1 ≡ q.1))
 once_either p q ps = picked (list_any (same_pair q) ps)
   where
-  picked : (b : Bool) → Has p (if b then ps else ps ++ q ∷ []) → Has p ps ⊎ ((p.0 ≡ q.0) × (p.1 ≡ q.1))
-  picked true h = inl h
-  picked false h = has_either p q ps h
+    picked : (b : Bool) → Has p (if b then ps else ps ++ q ∷ []) → Has p ps ⊎ ((p.0 ≡ q.0) × (p.1 ≡ q.1))
+    picked true h = inl h
+    picked false h = has_either p q ps h
 
 -- ---- what one function does with a use
 
@@ -64,9 +66,9 @@ marked f b ps = if nat_lt b f then once (f, b) ps else ps
 marked_keeps : (f b : ℕ) (p : ℕ × ℕ) (ps : Pairs) → Has p ps → Has p (marked f b ps)
 marked_keeps f b p ps h = kept (nat_lt b f)
   where
-  kept : (t : Bool) → Has p (if t then once (f, b) ps else ps)
-  kept true = once_keeps p (f, b) ps h
-  kept false = h
+    kept : (t : Bool) → Has p (if t then once (f, b) ps else ps)
+    kept true = once_keeps p (f, b) ps h
+    kept false = h
 
 marked_has : (f b : ℕ) (ps : Pairs) → b < f → Has (f, b) (marked f b ps)
 marked_has f b ps h = subst (Has (f, b)) (sym (cond-true (nat_lt b f) (once (f, b) ps) ps (lt-ltb b f h))) (once_has (f, b) ps)
@@ -74,14 +76,15 @@ marked_has f b ps h = subst (Has (f, b)) (sym (cond-true (nat_lt b f) (once (f, 
 marked_either : (f b : ℕ) (p : ℕ × ℕ) (ps : Pairs) → Has p (marked f b ps) → Has p ps ⊎ ((p.0 ≡ f) × (p.1 ≡ b))
 marked_either f b p ps = picked (nat_lt b f)
   where
-  picked : (t : Bool) → Has p (if t then once (f, b) ps else ps) → Has p ps ⊎ ((p.0 ≡ f) × (p.1 ≡ b))
-  picked true h = once_either p (f, b) ps h
-  picked false h = inl h
+    picked : (t : Bool) → Has p (if t then once (f, b) ps else ps) → Has p ps ⊎ ((p.0 ≡ f) × (p.1 ≡ b))
+    picked true h = once_either p (f, b) ps h
+    picked false h = inl h
 
 marked_none : (f b : ℕ) (ps : Pairs) → (b < f → Has (f, b) ps) → marked f b ps ≡ ps
 marked_none f b ps h = elim (cases_Bool (nat_lt b f)) [
-    inl t ↦ cond-true (nat_lt b f) (once (f, b) ps) ps t ∙ cond-true (list_any (same_pair (f, b)) ps) ps (ps ++ (f, b) ∷ []) (h (ltb-true b f t))
-  | inr n ↦ cond-false (nat_lt b f) (once (f, b) ps) ps n ]
+  | inl t ↦ cond-true (nat_lt b f) (once (f, b) ps) ps t ∙ cond-true (list_any (same_pair (f, b)) ps) ps (ps ++ (f, b) ∷ []) (h (ltb-true b f t))
+  | inr n ↦ cond-false (nat_lt b f) (once (f, b) ps) ps n
+]
 
 used_keeps : (fs : List ℕ) (b : ℕ) (p : ℕ × ℕ) (ps : Pairs) → Has p ps → Has p (used fs b ps)
 used_keeps [] b p ps h = h
@@ -90,8 +93,9 @@ used_keeps (f ∷ fs) b p ps h = used_keeps fs b p (marked f b ps) (marked_keeps
 used_either : (fs : List ℕ) (b : ℕ) (p : ℕ × ℕ) (ps : Pairs) → Has p (used fs b ps) → Has p ps ⊎ (p.1 ≡ b)
 used_either [] b p ps h = inl h
 used_either (f ∷ fs) b p ps h = elim (used_either fs b p (marked f b ps) h) [
-    inl t ↦ elim (marked_either f b p ps t) [ inl s ↦ inl s | inr e ↦ inr e.1 ]
-  | inr e ↦ inr e ]
+  | inl t ↦ elim (marked_either f b p ps t) [ inl s ↦ inl s | inr e ↦ inr e.1 ]
+  | inr e ↦ inr e
+]
 
 -- ---- each of these functions that the name is bound outside of has captured it
 
@@ -132,30 +136,42 @@ full_past (f ∷ fs) top b ps a h = ((λ below. absurd (omega (arith, a.0, below
 
 closed_used : (fs : List ℕ) (b : ℕ) (ps qs : Pairs) → ((p : ℕ × ℕ) → Has p ps → Has p qs) → ((p : ℕ × ℕ) → Has p qs → Has p ps ⊎ (p.1 ≡ b)) → Full fs b qs → Closed fs ps → Closed fs qs
 closed_used [] b ps qs keeps either full h = tt
-closed_used (f ∷ fs) b ps qs keeps either full h = ((λ c has. elim (either (f, c) has) [
-    inl t ↦ full_keeps fs c ps qs keeps (h.0 c t)
-  | inr e ↦ subst (λ n. Full fs n qs) (sym e) full.1 ]), closed_used fs b ps qs keeps either full.1 h.1)
+closed_used (f ∷ fs) b ps qs keeps either full h = (
+  (λ c has. elim (either (f, c) has) [
+    | inl t ↦ full_keeps fs c ps qs keeps (h.0 c t)
+    | inr e ↦ subst (λ n. Full fs n qs) (sym e) full.1
+  ]),
+  closed_used fs b ps qs keeps either full.1 h.1,
+)
 
 closed_more : (fs : List ℕ) (top f b : ℕ) (ps : Pairs) → Falls top fs → top ≤ f → Closed fs ps → Closed fs (ps ++ (f, b) ∷ [])
 closed_more [] top f b ps a h closed = tt
-closed_more (g ∷ gs) top f b ps a h closed = ((λ c has. elim (has_either (g, c) (f, b) ps has) [
-    inl t ↦ full_keeps gs c ps (ps ++ (f, b) ∷ []) (λ p s. has_more p ps ((f, b) ∷ []) s) (closed.0 c t)
-  | inr e ↦ absurd (omega (arith, a.0, e.0)) ]), closed_more gs g f b ps a.1 (omega (arith, a.0)) closed.1)
+closed_more (g ∷ gs) top f b ps a h closed = (
+  (λ c has. elim (has_either (g, c) (f, b) ps has) [
+    | inl t ↦ full_keeps gs c ps (ps ++ (f, b) ∷ []) (λ p s. has_more p ps ((f, b) ∷ []) s) (closed.0 c t)
+    | inr e ↦ absurd (omega (arith, a.0, e.0))
+  ]),
+  closed_more gs g f b ps a.1 (omega (arith, a.0)) closed.1,
+)
 
 outward_is : (fs : List ℕ) (top b : ℕ) (ps : Pairs) → Falls top fs → Closed fs ps → outward fs b ps ≡ used fs b ps
 outward_is [] top b ps a closed = refl
 outward_is (f ∷ fs) top b ps a closed = elim (cases_Bool (nat_lt b f)) [
-    inl t ↦ elim (cases_Bool (list_any (same_pair (f, b)) ps)) [
-        inl h ↦ known t h ∙ sym (used_full (f ∷ fs) b ps ((λ below. h), closed.0 b h))
-      | inr n ↦ new t n ∙ outward_is fs f b (ps ++ (f, b) ∷ []) a.1 (closed_more fs f f b ps a.1 (omega arith) closed.1) ∙ ap (used fs b) (sym (cond-true (nat_lt b f) (once (f, b) ps) ps t ∙ cond-false (list_any (same_pair (f, b)) ps) ps (ps ++ (f, b) ∷ []) n)) ]
-  | inr n ↦ past n ∙ sym (used_full (f ∷ fs) b ps ((λ below. absurd (omega (arith, below, ltb-false b f n))), full_past fs f b ps a.1 (ltb-false b f n))) ]
+  | inl t ↦ elim (cases_Bool (list_any (same_pair (f, b)) ps)) [
+    | inl h ↦ known t h ∙ sym (used_full (f ∷ fs) b ps ((λ below. h), closed.0 b h))
+    | inr n ↦ new t n ∙ outward_is fs f b (ps ++ (f, b) ∷ []) a.1 (closed_more fs f f b ps a.1 (omega arith) closed.1) ∙ ap (used fs b) (sym (cond-true (nat_lt b f) (once (f, b) ps) ps t ∙ cond-false (list_any (same_pair (f, b)) ps) ps (ps ++ (f, b) ∷ []) n))
+  ]
+  | inr n ↦ past n ∙ sym (used_full (f ∷ fs) b ps ((λ below. absurd (omega (arith, below, ltb-false b f n))), full_past fs f b ps a.1 (ltb-false b f n)))
+]
   where
-  known : nat_lt b f ≡ true → list_any (same_pair (f, b)) ps ≡ true → outward (f ∷ fs) b ps ≡ ps
-  known t h = ap (λ x. if x && not (list_any (same_pair (f, b)) ps) then outward fs b (ps ++ (f, b) ∷ []) else ps) t ∙ ap (λ x. if not x then outward fs b (ps ++ (f, b) ∷ []) else ps) h
-  new : nat_lt b f ≡ true → list_any (same_pair (f, b)) ps ≡ false → outward (f ∷ fs) b ps ≡ outward fs b (ps ++ (f, b) ∷ [])
-  new t n = ap (λ x. if x && not (list_any (same_pair (f, b)) ps) then outward fs b (ps ++ (f, b) ∷ []) else ps) t ∙ ap (λ x. if not x then outward fs b (ps ++ (f, b) ∷ []) else ps) n
-  past : nat_lt b f ≡ false → outward (f ∷ fs) b ps ≡ ps
-  past n = ap (λ x. if x && not (list_any (same_pair (f, b)) ps) then outward fs b (ps ++ (f, b) ∷ []) else ps) n
+    known : nat_lt b f ≡ true → list_any (same_pair (f, b)) ps ≡ true → outward (f ∷ fs) b ps ≡ ps
+    known t h = ap (λ x. if x && not (list_any (same_pair (f, b)) ps) then outward fs b (ps ++ (f, b) ∷ []) else ps) t ∙ ap (λ x. if not x then outward fs b (ps ++ (f, b) ∷ []) else ps) h
+
+    new : nat_lt b f ≡ true → list_any (same_pair (f, b)) ps ≡ false → outward (f ∷ fs) b ps ≡ outward fs b (ps ++ (f, b) ∷ [])
+    new t n = ap (λ x. if x && not (list_any (same_pair (f, b)) ps) then outward fs b (ps ++ (f, b) ∷ []) else ps) t ∙ ap (λ x. if not x then outward fs b (ps ++ (f, b) ∷ []) else ps) n
+
+    past : nat_lt b f ≡ false → outward (f ∷ fs) b ps ≡ ps
+    past n = ap (λ x. if x && not (list_any (same_pair (f, b)) ps) then outward fs b (ps ++ (f, b) ∷ []) else ps) n
 
 -- ---- along a journal whose functions begin in the order of their numbers
 
@@ -178,7 +194,7 @@ walks_itself low n c h w = record {
   falls = falls_below c.around (bound_of low c) n (omega (arith, w.within)) w.falls;
   closed = w.closed;
   begun = λ p has. omega (arith, w.begun p has, w.within);
-  within = omega arith
+  within = omega arith;
 }
 
 opens_at : (low n : ℕ) (itself : Option ℕ) → low ≤ n → unwrap_or itself low ≤ low → (unwrap_or itself low ≤ unwrap_or itself n) × (unwrap_or itself n < n + 1)
@@ -192,7 +208,7 @@ walks_opens low n c h w =
       falls = (at.1, falls_below c.around (bound_of low c) (unwrap_or c.itself n) at.0 w.falls);
       closed = ((λ b has. absurd (omega (arith, w.begun (unwrap_or c.itself n, b) has, at.0))), w.closed);
       begun = λ p has. omega (arith, w.begun p has, w.within);
-      within = omega arith
+      within = omega arith;
     }
 
 falls_rest : (top : ℕ) (fs : List ℕ) → Falls top fs → Falls top (drop 1 fs)
@@ -211,7 +227,7 @@ walks_names low n b c w = record {
   falls = w.falls;
   closed = closed_used c.around b c.captures (used c.around b c.captures) (λ p. used_keeps c.around b p c.captures) (λ p. used_either c.around b p c.captures) (full_used c.around b c.captures) w.closed;
   begun = used_below c.around (bound_of low c) b c.captures w.falls w.begun;
-  within = w.within
+  within = w.within;
 }
 
 walk_is : (js : Journal) (low : ℕ) (c : Captured) → Walks low c → RiseFrom low (opened js) → each (map step js) c ≡ each (map with_capture js) c

@@ -36,14 +36,15 @@ later x a r h h' = elim (cases_Bool (comes_before x r)) [ inl t ↦ (let u = eit
 
 with_one : (x a r : Refusal) (os : List Refusal) → IsFirst r (earlier (Some a) x ∷ os) → IsFirst r (a ∷ x ∷ os)
 with_one x a r os h = elim (cases_Bool (comes_before x a)) [
-    inl t ↦ (
-        let is : earlier (Some a) x ≡ x = (let f : Bool → Refusal = λ b. if b then x else a in ap f t) in
-        let g : IsFirst r (x ∷ os) = subst (λ y. IsFirst r (y ∷ os)) is h in
-        record { among = inr g.among; first = (later a x r (not_back x a t) g.first.0, g.first) })
+  | inl t ↦ (
+      let is : earlier (Some a) x ≡ x = (let f : Bool → Refusal = λ b. if b then x else a in ap f t) in
+      let g : IsFirst r (x ∷ os) = subst (λ y. IsFirst r (y ∷ os)) is h in
+      record { among = inr g.among; first = (later a x r (not_back x a t) g.first.0, g.first) })
   | inr f ↦ (
-        let is : earlier (Some a) x ≡ a = (let g : Bool → Refusal = λ b. if b then x else a in ap g f) in
-        let g : IsFirst r (a ∷ os) = subst (λ y. IsFirst r (y ∷ os)) is h in
-        record { among = elim g.among [ inl e ↦ inl e | inr m ↦ inr (inr m) ]; first = (g.first.0, (later x a r f g.first.0, g.first.1)) }) ]
+      let is : earlier (Some a) x ≡ a = (let g : Bool → Refusal = λ b. if b then x else a in ap g f) in
+      let g : IsFirst r (a ∷ os) = subst (λ y. IsFirst r (y ∷ os)) is h in
+      record { among = elim g.among [ inl e ↦ inl e | inr m ↦ inr (inr m) ]; first = (g.first.0, (later x a r f g.first.0, g.first.1)) })
+]
 
 first_from : (js : Journal) (a r : Refusal) → earliest (Some a) js ≡ Some r → IsFirst r (a ∷ offences js)
 first_from [] a r e = (let same : r ≡ a = cc in record { among = inl same; first = (subst (λ y. comes_before a y ≡ false) (sym same) (itself a), tt) })

@@ -73,7 +73,7 @@ grown_then : (number : Found → List ℕ) (is ks : List ℕ) (js later last : J
 grown_then number is ks js later last g h = record {
   more = g.more ++ h.more;
   is = h.is ∙ ap (λ xs. xs ++ h.more) g.is ∙ append_assoc (numbers number js) g.more h.more;
-  among = sub_join g.among h.among
+  among = sub_join g.among h.among;
 }
 
 grown_add : (number : Found → List ℕ) (js : Journal) (f : Found) → Grown number (number f) js (js ++ f ∷ [])
@@ -89,14 +89,14 @@ grown_still : (number : Found → List ℕ) (ids : List ℕ) (js later : Journal
 grown_still number ids js later f g e = record {
   more = g.more;
   is = numbers_add number later f ∙ ap (λ xs. numbers number later ++ xs) e ∙ append-nil (numbers number later) ∙ g.is;
-  among = g.among
+  among = g.among;
 }
 
 grown_last : (number : Found → List ℕ) (ids : List ℕ) (js later : Journal) (f : Found) → Grown number [] js later → Sub (number f) ids → Grown number ids js (later ++ f ∷ [])
 grown_last number ids js later f g s = record {
   more = g.more ++ number f;
   is = numbers_add number later f ∙ ap (λ xs. xs ++ number f) g.is ∙ append_assoc (numbers number js) g.more (number f);
-  among = sub_behind g.among s
+  among = sub_behind g.among s;
 }
 
 -- the numbers of functions are among those of the parts where functions may begin
@@ -120,7 +120,7 @@ pub grows_then : (l : Bool) (i j : Ids) (js later last : Journal) → Grows l i 
 grows_then l i j js later last g h = record {
   nodes = grown_then node_number i.nodes j.nodes js later last g.nodes h.nodes;
   types = grown_then type_number i.types j.types js later last g.types h.types;
-  opens = opening_then l i.nodes j.nodes js later last g.opens h.opens
+  opens = opening_then l i.nodes j.nodes js later last g.opens h.opens;
 }
 
 -- ---- what a part of a walk adds; in patterns and types no function begins
@@ -145,8 +145,8 @@ adds_behind {l} {f} {i} j a = record { by = λ js. grows_then l j i js js (f js)
 pub adds_end : {l : Bool} {f g : Journal → Journal} {i : Ids} → Adds l f i → Adds l g no_ids → Adds l (λ js. g (f js)) i
 adds_end {l} {f} {g} {i} a b = record { by = λ js. subst (λ (k : Ids). Grows l k js (g (f js))) (no_more i) (grows_then l i no_ids js (f js) (g (f js)) (a.by js) (b.by (f js))) }
   where
-  no_more : (i : Ids) → joined i no_ids ≡ i
-  no_more i = ap (λ ns. record { nodes = ns; types = i.types ++ [] }) (append-nil i.nodes) ∙ ap (λ ts. record { nodes = i.nodes; types = ts }) (append-nil i.types)
+    no_more : (i : Ids) → joined i no_ids ≡ i
+    no_more i = ap (λ ns. record { nodes = ns; types = i.types ++ [] }) (append-nil i.nodes) ∙ ap (λ ts. record { nodes = i.nodes; types = ts }) (append-nil i.types)
 
 pub adds_quiet : {l : Bool} (found : Found) → node_number found ≡ [] → type_number found ≡ [] → open_number found ≡ [] → (i : Ids) → Adds l (λ js. add js found) i
 adds_quiet {l} found n t o i = record { by = λ js. record { nodes = grown_quiet node_number i.nodes js found n; types = grown_quiet type_number i.types js found t; opens = grown_quiet open_number (opening l i.nodes) js found o } }
@@ -166,11 +166,13 @@ adds_opens node = record { by = λ js. record { nodes = grown_quiet node_number 
 
 -- a function begins behind parts that have its number
 pub adds_opened : {f : Journal → Journal} {i : Ids} (found : Found) → node_number found ≡ [] → type_number found ≡ [] → Sub (open_number found) i.nodes → Adds false f i → Adds true (λ js. add (f js) found) i
-adds_opened {f} {i} found n t s a = record { by = λ js. record {
-  nodes = grown_still node_number i.nodes js (f js) found (a.by js).nodes n;
-  types = grown_still type_number i.types js (f js) found (a.by js).types t;
-  opens = grown_last open_number i.nodes js (f js) found (a.by js).opens s
-} }
+adds_opened {f} {i} found n t s a = record {
+  by = λ js. record {
+    nodes = grown_still node_number i.nodes js (f js) found (a.by js).nodes n;
+    types = grown_still type_number i.types js (f js) found (a.by js).types t;
+    opens = grown_last open_number i.nodes js (f js) found (a.by js).opens s;
+  };
+}
 
 pub adds_offence : {l : Bool} (rule : Rule) (place : Span) (i : Ids) → Adds l (offence rule place) i
 adds_offence rule place i = adds_quiet (Offends (record { rule = rule; span = place })) refl refl refl i
@@ -204,8 +206,8 @@ pub adds_twice : {l : Bool} (k : Known) (seen : Env) (bs : List Binder) (i : Ids
 adds_twice k seen [] i = adds_none i
 adds_twice k seen (b ∷ bs) i = adds_before (adds_where _ _ _ no_ids) (adds_twice k ((spelling k.text b.name, value_at false b.node) ∷ seen) bs i)
   where
-  adds_before : {l : Bool} {f g : Journal → Journal} {i : Ids} → Adds l f no_ids → Adds l g i → Adds l (λ js. g (f js)) i
-  adds_before a b = adds_then a b
+    adds_before : {l : Bool} {f g : Journal → Journal} {i : Ids} → Adds l f no_ids → Adds l g i → Adds l (λ js. g (f js)) i
+    adds_before a b = adds_then a b
 
 pub adds_all : {l : Bool} {X S : Type 0} (seen : X → S) (look : S → Journal → Journal) (ids : X → Ids) (xs : List X) → ((x : X) → Adds l (look (seen x)) (ids x)) → Adds l (each (map look (map seen xs))) (all (map ids xs))
 adds_all seen look ids [] h = adds_none no_ids

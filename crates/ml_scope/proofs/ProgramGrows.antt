@@ -64,8 +64,8 @@ module _ (k : Known) where
 kind_grows : (kind : ItemKind) (w : World) → Grows true (I.item_kind_ids kind) w.journal (kind_item kind w).journal
 kind_grows (Types ds) w = (adds_loud (adds_each (decl_look (inner w ds)) I.decl_ids ds (decl_grows (inner w ds)))).by w.journal
   where
-  inner : World → List Decl → Known
-  inner w ds = record { text = w.known.text; constructors = w.known.constructors; fields = w.known.fields; types = with_types w.known.text w.next ds w.known.types }
+    inner : World → List Decl → Known
+    inner w ds = record { text = w.known.text; constructors = w.known.constructors; fields = w.known.fields; types = with_types w.known.text w.next ds w.known.types }
 kind_grows (Let recursive bs) w = (adds_then (adds_quiet F.Anew refl refl refl no_ids) (group_grows w.known true recursive w.values bs)).by w.journal
 
 item_grows : (item : Item) (w : World) → Grows true (I.item_ids item) w.journal (item_look item w).journal

@@ -23,7 +23,6 @@ seen_push bound b = ap (map shown) (reverse-append bound (b ∷ []))
 chain_push : (bound : List Bound) (b : Bound) → Hides (reverse bound) → b.hidden ≡ find (seen bound) b.name.items → Hides (reverse (bound ++ b ∷ []))
 chain_push bound b h e = rw reverse-append (e, h)
 
-
 picked : (t : Bool) (m : Meaning) (o : Option (Option Meaning)) (f : Option Meaning) → joined o ≡ f → joined (if t then Some (Some m) else o) ≡ (if t then Some m else f)
 picked true m o f h = refl
 picked false m o f h = h
@@ -49,21 +48,21 @@ chain_pop bound b h = rw reverse-append at h
 pub chained_unbind : {K : Type 0} (bytes : K → Name) (bound : List Bound) (es : List (K × Option Meaning)) (k : K) (b : Bound) → IsChained (bound ++ b ∷ []) (look_up es bytes) → b.name.items ≡ bytes k → IsChained bound (look_up (insert_entry (λ x y. bytes_eq (bytes x) (bytes y)) es k b.hidden) bytes)
 chained_unbind bytes bound es k b c same =
     let chain = chain_pop bound b c.hides in record {
-  table = λ name.
-      let old : joined (look_up es bytes name) ≡ (if bytes_eq name (bytes k) then Some b.meaning else find (seen bound) name) =
+      table = λ name.
+          let old : joined (look_up es bytes name) ≡ (if bytes_eq name (bytes k) then Some b.meaning else find (seen bound) name) =
           c.table name ∙ ap (λ e. find e name) (seen_push bound b) ∙ ap (λ w. if bytes_eq name w then Some b.meaning else find (seen bound) name) same in
-      let hidden : bytes_eq name (bytes k) ≡ true → b.hidden ≡ find (seen bound) name =
+          let hidden : bytes_eq name (bytes k) ≡ true → b.hidden ≡ find (seen bound) name =
           λ t. let e : name ≡ bytes k = (bytes_eq-Decides name (bytes k)).0 t in chain.0 ∙ ap (find (seen bound)) (same ∙ sym e) in
-      ap joined (look_up_insert bytes es k b.hidden name) ∙ given_back (bytes_eq name (bytes k)) b.hidden b.meaning (look_up es bytes name) (find (seen bound) name) old hidden;
-  hides = chain.1;
-}
+          ap joined (look_up_insert bytes es k b.hidden name) ∙ given_back (bytes_eq name (bytes k)) b.hidden b.meaning (look_up es bytes name) (find (seen bound) name) old hidden;
+      hides = chain.1;
+    }
 
 -- the name of a binder in scope is in the table
 pub in_table : {K : Type 0} (bytes : K → Name) (bound : List Bound) (es : List (K × Option Meaning)) (k : K) (b : Bound) → IsChained (bound ++ b ∷ []) (look_up es bytes) → b.name.items ≡ bytes k → look_up es bytes (bytes k) ≡ None → ⊥
 in_table bytes bound es k b c same e =
     let found : find (seen bound) (bytes k) ≡ find (seen bound) (bytes k) = refl in
     let old : joined (look_up es bytes (bytes k)) ≡ (if bytes_eq (bytes k) (bytes k) then Some b.meaning else find (seen bound) (bytes k)) =
-        c.table (bytes k) ∙ ap (λ e. find e (bytes k)) (seen_push bound b) ∙ ap (λ w. if bytes_eq (bytes k) w then Some b.meaning else find (seen bound) (bytes k)) same in
+    c.table (bytes k) ∙ ap (λ e. find e (bytes k)) (seen_push bound b) ∙ ap (λ w. if bytes_eq (bytes k) w then Some b.meaning else find (seen bound) (bytes k)) same in
     let itself : bytes_eq (bytes k) (bytes k) ≡ true = (bytes_eq-Decides (bytes k) (bytes k)).1 refl in
     let new : None ≡ Some b.meaning = ap joined (sym e) ∙ old ∙ ap (λ t. if t then Some b.meaning else find (seen bound) (bytes k)) itself in
     let no' : ⊥ = cc in no'

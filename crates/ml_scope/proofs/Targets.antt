@@ -13,19 +13,22 @@ pub found_at : (refs : List (ℕ × Ref)) (node : ℕ) (target : Ref) → Rises 
 found_at [] node target rises has = absurd (let e = has.1 in cc)
 found_at (x ∷ refs) node target rises has = at (λ k e. found_at refs node target (tail rises) (k, e)) has.0 has.1
   where
-  tail : Rises (x ∷ refs) → Rises refs
-  tail rises = λ i j p q h e f. rises (suc i) (suc j) p q (omega (arith, h)) e f
-  at : ((k : ℕ) → slice_get refs k ≡ Some (node, target) → target_at refs node ≡ Some target) → (k : ℕ) → slice_get (x ∷ refs) k ≡ Some (node, target) → target_at (x ∷ refs) node ≡ Some target
-  at rest zero e = (let same : x ≡ (node, target) = cc in let t : nat_eq node x.0 ≡ true = (Decides-eqb node x.0).1 (sym (ap (λ p. p.0) same)) in cond-true (nat_eq node x.0) (Some x.1) (target_at refs node) t ∙ ap (λ p. Some p.1) same)
-  at rest (suc k) e = elim (cases_Bool (nat_eq node x.0)) [
-      inl t ↦ (let same : node ≡ x.0 = (Decides-eqb node x.0).0 t in let below : x.0 < node = rises zero (suc k) x (node, target) (omega arith) refl e in absurd (omega (arith, same, below)))
-    | inr f ↦ cond-false (nat_eq node x.0) (Some x.1) (target_at refs node) f ∙ rest k e ]
+    tail : Rises (x ∷ refs) → Rises refs
+    tail rises = λ i j p q h e f. rises (suc i) (suc j) p q (omega (arith, h)) e f
+
+    at : ((k : ℕ) → slice_get refs k ≡ Some (node, target) → target_at refs node ≡ Some target) → (k : ℕ) → slice_get (x ∷ refs) k ≡ Some (node, target) → target_at (x ∷ refs) node ≡ Some target
+    at rest zero e = (let same : x ≡ (node, target) = cc in let t : nat_eq node x.0 ≡ true = (Decides-eqb node x.0).1 (sym (ap (λ p. p.0) same)) in cond-true (nat_eq node x.0) (Some x.1) (target_at refs node) t ∙ ap (λ p. Some p.1) same)
+    at rest (suc k) e = elim (cases_Bool (nat_eq node x.0)) [
+      | inl t ↦ (let same : node ≡ x.0 = (Decides-eqb node x.0).0 t in let below : x.0 < node = rises zero (suc k) x (node, target) (omega arith) refl e in absurd (omega (arith, same, below)))
+      | inr f ↦ cond-false (nat_eq node x.0) (Some x.1) (target_at refs node) f ∙ rest k e
+    ]
 
 pub none_at : (refs : List (ℕ × Ref)) (node : ℕ) → ((target : Ref) → Has refs node target → ⊥) → target_at refs node ≡ None
 none_at [] node none = refl
 none_at (x ∷ refs) node none = elim (cases_Bool (nat_eq node x.0)) [
-    inl t ↦ (let same : x ≡ (node, x.1) = (let n : ℕ → ℕ × Ref = λ m. (m, x.1) in ap n (sym ((Decides-eqb node x.0).0 t))) in absurd (none x.1 (zero, ap Some same)))
-  | inr f ↦ cond-false (nat_eq node x.0) (Some x.1) (target_at refs node) f ∙ none_at refs node (λ target has. none target (suc has.0, has.1)) ]
+  | inl t ↦ (let same : x ≡ (node, x.1) = (let n : ℕ → ℕ × Ref = λ m. (m, x.1) in ap n (sym ((Decides-eqb node x.0).0 t))) in absurd (none x.1 (zero, ap Some same)))
+  | inr f ↦ cond-false (nat_eq node x.0) (Some x.1) (target_at refs node) f ∙ none_at refs node (λ target has. none target (suc has.0, has.1))
+]
 
 -- ---- the numbers from one up to another
 

@@ -103,7 +103,7 @@ module _ (k : Known) where
   abbrev pub bind_node : Bind-F KindSeen (Env → Journal → Journal) BindSeen Seen FieldSeen → BindSeen
   bind_node b = record {
     names = binders b.pat;
-    look = λ recursive env js. value_look recursive b.pat b.params b.result b.body env (bind_head recursive b.pat b.params b.body.shape js)
+    look = λ recursive env js. value_look recursive b.pat b.params b.result b.body env (bind_head recursive b.pat b.params b.body.shape js);
   }
 
   abbrev pub bind_names : List BindSeen → List Binder

@@ -100,7 +100,7 @@ types_item ds w =
       known = record { text = w.known.text; constructors = with_constructors w.known.text w.next ds w.known.constructors; fields = with_fields w.known.text w.next ds w.known.fields; types = inner.types };
       values = w.values;
       next = w.next + length ds;
-      journal = each (map (decl_look inner) ds) w.journal
+      journal = each (map (decl_look inner) ds) w.journal;
     }
 
 abbrev pub let_item : Bool → List Bind → World → World
@@ -108,7 +108,7 @@ let_item recursive bs w = record {
   known = w.known;
   values = bound w.known true (bind_names w.known (map (bind_seen w.known) bs)) w.values;
   next = w.next;
-  journal = group_look w.known true recursive (map (bind_seen w.known) bs) w.values (add w.journal Anew)
+  journal = group_look w.known true recursive (map (bind_seen w.known) bs) w.values (add w.journal Anew);
 }
 
 abbrev pub kind_item : ItemKind → World → World
@@ -140,7 +140,7 @@ start text = record {
   known = record { text = text; constructors = predefined_constructors; fields = []; types = predefined_types };
   values = predefined_values;
   next = 7;
-  journal = []
+  journal = [];
 }
 
 -- what a program uses and declares

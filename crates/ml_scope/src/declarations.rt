@@ -61,7 +61,10 @@ fn declare_variant(
     let mut place = 0;
     for one in list {
         let parts = count(one.args.len())?;
-        scope.bind(spelling(text, one.name), constructor_at(number, place, parts))?;
+        scope.bind(
+            spelling(text, one.name),
+            constructor_at(number, place, parts),
+        )?;
         place = after(place)?;
     }
     Ok(())
@@ -111,12 +114,7 @@ fn body_constructors(
     }
 }
 
-fn body_fields(
-    text: &[u8],
-    number: u32,
-    body: &DeclBody,
-    scope: &mut Scope,
-) -> Result<(), NoMemory>
+fn body_fields(text: &[u8], number: u32, body: &DeclBody, scope: &mut Scope) -> Result<(), NoMemory>
     ensures { OnOk result (scope.new ≡ body_fields text.now number body.now scope.old) }
 {
     match body {
@@ -169,11 +167,7 @@ fn args(known: &Known, list: &[Arg], journal: &mut Items<Found>) -> Result<(), N
     Ok(())
 }
 
-fn constructors(
-    known: &Known,
-    list: &[ConDecl],
-    journal: &mut Items<Found>,
-) -> Result<(), NoMemory>
+fn constructors(known: &Known, list: &[ConDecl], journal: &mut Items<Found>) -> Result<(), NoMemory>
     ensures { OnOk result (journal.new ≡ each (map (con_look known.now) list.now) journal.old) }
 {
     for one in list {
@@ -182,11 +176,7 @@ fn constructors(
     Ok(())
 }
 
-fn fields(
-    known: &Known,
-    list: &[FieldDecl],
-    journal: &mut Items<Found>,
-) -> Result<(), NoMemory>
+fn fields(known: &Known, list: &[FieldDecl], journal: &mut Items<Found>) -> Result<(), NoMemory>
     ensures { OnOk result (journal.new ≡ each (map (field_look known.now) list.now) journal.old) }
 {
     for one in list {

@@ -8,7 +8,9 @@ ghost use Rattle.ml_scope.specs.Expressions.{expr_seen, kind_seen, arm_look, bin
 use crate::binder::{Binder, binders};
 use crate::binding::{bind_all, report_twice};
 use crate::found::Found;
-use crate::functions::{bind_head, bind_names, function_head, given, param_names, path, plain_head, record_expression};
+use crate::functions::{
+    bind_head, bind_names, function_head, given, param_names, path, plain_head, record_expression,
+};
 use crate::journal::{both, offence_where};
 use crate::known::Known;
 use crate::patterns::pattern;

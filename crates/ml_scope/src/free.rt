@@ -53,12 +53,7 @@ fn with_free(
 /// The local names that the nodes from `low` up to but not including `high` use and that are bound
 /// at none of them.
 #[tactic(auto, using(crate::proofs::Targets::free_step, crate::proofs::Targets::free_end))]
-fn free_between(
-    alloc: Global,
-    s: &Scoped,
-    low: u32,
-    high: u32,
-) -> Result<Items<u32>, NoMemory>
+fn free_between(alloc: Global, s: &Scoped, low: u32, high: u32) -> Result<Items<u32>, NoMemory>
     ensures { IfOk result (λ names. names ≡ free_names s.now.refs (range_with_len low (high - low))) }
 {
     let mut names = IndexSet::new(alloc);

@@ -23,13 +23,7 @@ fn earlier(first: Option<Refusal>, more: Refusal) -> Refusal
 {
     match first {
         None => more,
-        Some(one) => {
-            if comes_before(more, one) {
-                more
-            } else {
-                one
-            }
-        }
+        Some(one) => { if comes_before(more, one) { more } else { one } }
     }
 }
 

@@ -147,11 +147,7 @@ fn operand(
 }
 
 #[cycle(patterns)]
-fn patterns(
-    known: &Known,
-    list: &[Pat],
-    journal: &mut Items<Found>,
-) -> Result<bool, NoMemory>
+fn patterns(known: &Known, list: &[Pat], journal: &mut Items<Found>) -> Result<bool, NoMemory>
     ensures binds { IfOk result (λ b. b ≡ any_binds (map (λ q. q.binds) (map (pattern_seen known.now) list.now))) }
     ensures journal { OnOk result (journal.new ≡ each (map (λ q. q.look) (map (pattern_seen known.now) list.now)) journal.old) }
 {
@@ -164,11 +160,7 @@ fn patterns(
 }
 
 #[cycle(patterns)]
-fn fields(
-    known: &Known,
-    list: &[FieldPat],
-    journal: &mut Items<Found>,
-) -> Result<bool, NoMemory>
+fn fields(known: &Known, list: &[FieldPat], journal: &mut Items<Found>) -> Result<bool, NoMemory>
     ensures binds { IfOk result (λ b. b ≡ any_binds (map (λ q. q.binds) (map (field_pattern_seen known.now) list.now))) }
     ensures journal { OnOk result (journal.new ≡ each (map (λ q. q.look) (map (field_pattern_seen known.now) list.now)) journal.old) }
 {
@@ -194,11 +186,7 @@ fn field_pattern(
 }
 
 /// What the parameters of a function use.
-pub fn params(
-    known: &Known,
-    list: &[Param],
-    journal: &mut Items<Found>,
-) -> Result<(), NoMemory>
+pub fn params(known: &Known, list: &[Param], journal: &mut Items<Found>) -> Result<(), NoMemory>
     ensures { OnOk result (journal.new ≡ each (map (param_look known.now) list.now) journal.old) }
 {
     for one in list {

@@ -119,11 +119,13 @@ impl Scope {
     {
         match self.bound.pop() {
             None => {}
-            Some(Bound {
-                name,
-                meaning: _,
-                hidden,
-            }) => give_back(&mut self.nearest, name, hidden),
+            Some(
+                Bound {
+                    name,
+                    meaning: _,
+                    hidden,
+                },
+            ) => give_back(&mut self.nearest, name, hidden),
         }
     }
 

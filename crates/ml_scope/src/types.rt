@@ -63,11 +63,7 @@ pub fn arg(known: &Known, arg: &Arg, journal: &mut Items<Found>) -> Result<(), N
 }
 
 #[cycle(types)]
-fn type_exprs(
-    known: &Known,
-    list: &[TyExpr],
-    journal: &mut Items<Found>,
-) -> Result<(), NoMemory>
+fn type_exprs(known: &Known, list: &[TyExpr], journal: &mut Items<Found>) -> Result<(), NoMemory>
     ensures { OnOk result (journal.new ≡ each (map (type_look known.now) list.now) journal.old) }
 {
     for one in list {

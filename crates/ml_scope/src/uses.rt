@@ -65,12 +65,7 @@ pub fn constructor(
 }
 
 /// A name of a field.
-pub fn field(
-    known: &Known,
-    id: u32,
-    name: Span,
-    journal: &mut Items<Found>,
-) -> Result<(), NoMemory>
+pub fn field(known: &Known, id: u32, name: Span, journal: &mut Items<Found>) -> Result<(), NoMemory>
     ensures { OnOk result (journal.new ≡ field_named known.now id name journal.old) }
 {
     match known.field(name) {
@@ -110,7 +105,9 @@ fn of_one(declaration: u32, list: &[Meaning]) -> bool
 fn fits(alloc: Global, whole: bool, list: &[Meaning]) -> Result<bool, NoMemory>
     ensures { IfOk result (λ fit. fit ≡ fits whole list.now) }
 {
-    let Some(first) = list.first() else { return Ok(true) };
+    let Some(first) = list.first() else {
+        return Ok(true)
+    };
     if !of_one(first.declaration, list) {
         return Ok(false);
     }
