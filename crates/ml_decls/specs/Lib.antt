@@ -1,7 +1,10 @@
+pub mod Lists
 pub mod Mentions
 pub mod Written
 pub mod Programs
 pub mod Offences
+pub mod Verdicts
 pub mod Said
 pub mod Tables
+pub mod Predefined
 pub mod Answers

@@ -1,21 +1,19 @@
 -- The names and the variables of a type expression, in the order of the source.
-use Rattle.std.specs.Prelude.{ℕ, List, [], ◌∷◌, ◌++◌, length, flat_map}
+use Rattle.std.specs.Prelude.{ℕ, List, [], ◌∷◌, ◌++◌, length}
 use Rattle.oxml_base.specs.declared.span.Span.{Span}
 use Rattle.ml_tree.specs.declared.types.TyExpr.{TyExpr, fold-TyExpr}
 use Rattle.ml_tree.specs.declared.types.TyKind.{TyKind, fold-TyKind}
 use Rattle.ml_tree.specs.declared.types.Arg.{Arg, fold-Arg}
 use Rattle.ml_tree.specs.declared.types.TyKind.TheOpen as t
 use Rattle.ml_tree.specs.declared.types.TyKind.TheOpen.{TyKind-F, Arg-F, TyExpr-F}
-
--- the number and the span of the whole type expression; a name with how many arguments it has
-pub data Mention : Type 0 where
-  Named : ℕ → Span → ℕ → Mention
-  Variable : ℕ → Span → Mention
+use Rattle.ml_decls.specs.declared.mentions.Mention.{Mention}
+use Rattle.ml_decls.specs.declared.mentions.Mention.TheVariants.{Named, Variable}
+use Rattle.ml_decls.specs.Lists.{all}
 
 abbrev pub step : TyKind-F (ℕ → Span → List Mention) (List Mention) (List Mention) → ℕ → Span → List Mention
 step (t.Var name) id whole = Variable id whole ∷ []
-step (t.Con name args) id whole = Named id whole (length args) ∷ flat_map (λ arg. arg) args
-step (t.Tuple parts) id whole = flat_map (λ part. part) parts
+step (t.Con name args) id whole = Named id whole (length args) ∷ all args
+step (t.Tuple parts) id whole = all parts
 step (t.Arrow from to) id whole = from ++ to
 
 abbrev pub arg_step : Arg-F (ℕ → Span → List Mention) (List Mention) (List Mention) → List Mention

@@ -1,25 +1,21 @@
 -- The violations of the rules on declarations, and the first of them.
-use Rattle.std.specs.Prelude.{◌≡◌, ◌≢◌, ◌⊎◌, ℕ, ◌+◌, ◌-◌, ◌<◌, ◌≤◌, List, take, drop, length, Some, slice_get}
+use Rattle.std.specs.Prelude.{◌≡◌, ◌≢◌, ◌⊎◌, ℕ, ◌+◌, ◌-◌, ◌<◌, ◌≤◌, List, take, drop, length, Option, Some, None, true, slice_get}
 use Rattle.oxml_base.specs.declared.span.Span.{Span}
 use Rattle.oxml_base.specs.declared.refusal.Refusal.{Refusal}
 use Rattle.oxml_base.specs.declared.rule.Rule.{Rule}
 use Rattle.oxml_base.specs.declared.rule.Rule.TheVariants.{ArgumentCount, UnboundVariable, DeclaredTwice, CyclicAbbreviation}
 use Rattle.oxml_base.specs.Rules.{rule_number}
-use Rattle.ml_tree.specs.declared.types.TyExpr.{TyExpr}
 use Rattle.ml_tree.specs.declared.types.Decl.{Decl}
-use Rattle.ml_tree.specs.declared.types.DeclBody.TheVariants.{Alias}
 use Rattle.ml_tree.specs.declared.program.Item.{Item}
 use Rattle.ml_tree.specs.declared.reference.TyRef.{TyRef}
 use Rattle.ml_tree.specs.declared.reference.TyRef.TheVariants as r
-use Rattle.ml_decls.specs.Mentions.{Mention, Named, Variable, mentions}
-use Rattle.ml_decls.specs.Programs.{declarations, type_names, constructor_names, field_names, variable_counts, body_mentions, all_mentions, find}
+use Rattle.ml_decls.specs.declared.mentions.Mention.TheVariants.{Named, Variable}
+use Rattle.ml_decls.specs.Lists.{IsIn, find}
+use Rattle.ml_decls.specs.Programs.{declarations, type_names, constructor_names, field_names, variable_counts, body_mentions, all_mentions, abbreviates}
 
 -- the bytes of a text at a place
 abbrev pub spelling : List ℕ → Span → List ℕ
 spelling text place = take (place.end - place.start) (drop place.start text)
-
-abbrev pub Among : {A : Type 0} → A → List A → Type 0
-Among a xs = (i : ℕ) × (slice_get xs i ≡ Some a)
 
 -- a name stands at this place at more or fewer arguments than its declaration has variables
 pub record IsWrongCount (types : List (ℕ × TyRef)) (items : List Item) (place : Span) : Type 0 where
@@ -27,7 +23,7 @@ pub record IsWrongCount (types : List (ℕ × TyRef)) (items : List Item) (place
   pub arguments : ℕ
   pub declaration : ℕ
   pub variables : ℕ
-  pub stands : Among (Named id place arguments) (all_mentions items)
+  pub stands : IsIn (Named id place arguments) (all_mentions items)
   pub names : find types id ≡ Some (r.Decl declaration)
   pub declared : slice_get (variable_counts (declarations items)) declaration ≡ Some variables
   pub differ : arguments ≢ variables
@@ -37,8 +33,8 @@ pub record IsUnlisted (types : List (ℕ × TyRef)) (items : List Item) (place :
   pub declaration : Decl
   pub id : ℕ
   pub number : ℕ
-  pub declared : Among declaration (declarations items)
-  pub stands : Among (Variable id place) (body_mentions declaration.body)
+  pub declared : IsIn declaration (declarations items)
+  pub stands : IsIn (Variable id place) (body_mentions declaration.body)
   pub names : find types id ≡ Some (r.Var number)
   pub behind : length declaration.vars ≤ number
 
@@ -46,14 +42,13 @@ pub record IsUnlisted (types : List (ℕ × TyRef)) (items : List Item) (place :
 pub record Abbreviates (types : List (ℕ × TyRef)) (items : List Item) (d e : ℕ) : Type 0 where
   pub place : ℕ
   pub declaration : Decl
-  pub body : TyExpr
   pub id : ℕ
   pub whole : Span
   pub arguments : ℕ
   pub number : d ≡ place + 7
   pub declared : slice_get (declarations items) place ≡ Some declaration
-  pub abbreviates : declaration.body ≡ Alias body
-  pub stands : Among (Named id whole arguments) (mentions body)
+  pub is_abbreviation : abbreviates declaration.body ≡ true
+  pub stands : IsIn (Named id whole arguments) (body_mentions declaration.body)
   pub names : find types id ≡ Some (r.Decl e)
 
 -- the same through any number of abbreviations
@@ -102,3 +97,8 @@ ComesBefore a b = (a.span.start < b.span.start) ⊎ ((a.span.start ≡ b.span.st
 pub record IsFirst (text : List ℕ) (types : List (ℕ × TyRef)) (items : List Item) (refusal : Refusal) : Type 0 where
   pub offends : Offends text types items refusal
   pub least : (other : Refusal) → Offends text types items other → ComesBefore other refusal → ⊥
+
+-- there is no violation, or this one is the first
+abbrev pub NoneOrFirst : List ℕ → List (ℕ × TyRef) → List Item → Option Refusal → Type 0
+NoneOrFirst text types items None = (refusal : Refusal) → Offends text types items refusal → ⊥
+NoneOrFirst text types items (Some refusal) = IsFirst text types items refusal

@@ -1,5 +1,5 @@
 -- What a program declares, and where it names types.
-use Rattle.std.specs.Prelude.{ℕ, List, [], ◌∷◌, ◌++◌, map, length, flat_map, Option, Some, None, cond, nat_eq}
+use Rattle.std.specs.Prelude.{ℕ, List, [], ◌∷◌, ◌++◌, map, length, Bool, true, false}
 use Rattle.oxml_base.specs.declared.span.Span.{Span}
 use Rattle.ml_tree.specs.declared.types.TyExpr.{TyExpr}
 use Rattle.ml_tree.specs.declared.types.Arg.{Arg}
@@ -11,7 +11,10 @@ use Rattle.ml_tree.specs.declared.types.DeclBody.TheVariants.{Variant, Fields, A
 use Rattle.ml_tree.specs.declared.program.Item.{Item}
 use Rattle.ml_tree.specs.declared.program.ItemKind.{ItemKind}
 use Rattle.ml_tree.specs.declared.program.ItemKind.TheVariants.{Types, Let}
-use Rattle.ml_decls.specs.Mentions.{Mention, mentions, arg_mentions}
+use Rattle.ml_decls.specs.declared.mentions.Mention.{Mention}
+use Rattle.ml_decls.specs.declared.outline.Outline.{Outline}
+use Rattle.ml_decls.specs.Lists.{all}
+use Rattle.ml_decls.specs.Mentions.{mentions, arg_mentions}
 use Rattle.ml_decls.specs.Written.{in_bind}
 
 -- ---- what is declared, in the order of the source
@@ -21,7 +24,7 @@ kind_declarations (Types ds) = ds
 kind_declarations (Let recursive bs) = []
 
 abbrev pub declarations : List Item → List Decl
-declarations items = flat_map (λ (item : Item). kind_declarations item.kind) items
+declarations items = all (map (λ (item : Item). kind_declarations item.kind) items)
 
 abbrev pub body_constructors : DeclBody → List Span
 body_constructors (Variant cs) = map (λ (c : ConDecl). c.name) cs
@@ -38,10 +41,10 @@ abbrev pub type_names : List Decl → List Span
 type_names ds = map (λ (d : Decl). d.name) ds
 
 abbrev pub constructor_names : List Decl → List Span
-constructor_names ds = flat_map (λ (d : Decl). body_constructors d.body) ds
+constructor_names ds = all (map (λ (d : Decl). body_constructors d.body) ds)
 
 abbrev pub field_names : List Decl → List Span
-field_names ds = flat_map (λ (d : Decl). body_fields d.body) ds
+field_names ds = all (map (λ (d : Decl). body_fields d.body) ds)
 
 -- how many variables each declaration has, at its number: int, char, string, bool, unit, list and option, and then the written ones
 abbrev pub variable_counts : List Decl → List ℕ
@@ -50,28 +53,33 @@ variable_counts ds = 0 ∷ 0 ∷ 0 ∷ 0 ∷ 0 ∷ 1 ∷ 1 ∷ map (λ (d : Decl
 -- ---- where types are named
 
 abbrev pub con_mentions : ConDecl → List Mention
-con_mentions c = flat_map arg_mentions c.args
+con_mentions c = all (map arg_mentions c.args)
 
 abbrev pub field_mentions : FieldDecl → List Mention
 field_mentions f = arg_mentions f.arg
 
 abbrev pub body_mentions : DeclBody → List Mention
-body_mentions (Variant cs) = flat_map con_mentions cs
-body_mentions (Fields fs) = flat_map field_mentions fs
+body_mentions (Variant cs) = all (map con_mentions cs)
+body_mentions (Fields fs) = all (map field_mentions fs)
 body_mentions (Alias ty) = mentions ty
 
-abbrev pub kind_annotations : ItemKind → List TyExpr
-kind_annotations (Types ds) = []
-kind_annotations (Let recursive bs) = flat_map in_bind bs
-
 -- in the types that are written in patterns and expressions
-abbrev pub annotation_mentions : List Item → List Mention
-annotation_mentions items = flat_map (λ (item : Item). flat_map mentions (kind_annotations item.kind)) items
+abbrev pub kind_annotations : ItemKind → List Mention
+kind_annotations (Types ds) = []
+kind_annotations (Let recursive bs) = all (map in_bind bs)
+
+abbrev pub annotations : List Item → List Mention
+annotations items = all (map (λ (item : Item). kind_annotations item.kind) items)
 
 abbrev pub all_mentions : List Item → List Mention
-all_mentions items = flat_map (λ (d : Decl). body_mentions d.body) (declarations items) ++ annotation_mentions items
+all_mentions items = all (map (λ (d : Decl). body_mentions d.body) (declarations items)) ++ annotations items
 
--- what a number names
-abbrev pub find : {A : Type 0} → List (ℕ × A) → ℕ → Option A
-find [] n = None
-find (p ∷ ps) n = cond (nat_eq p.0 n) (Some p.1) (find ps n)
+-- ---- what a declaration says to the rules
+
+abbrev pub abbreviates : DeclBody → Bool
+abbreviates (Variant cs) = false
+abbreviates (Fields fs) = false
+abbreviates (Alias ty) = true
+
+abbrev pub outline : Decl → Outline
+outline d = record { name = d.name; variables = length d.vars; is_abbreviation = abbreviates d.body; mentions = body_mentions d.body; constructors = body_constructors d.body; fields = body_fields d.body }

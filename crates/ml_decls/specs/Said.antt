@@ -18,7 +18,7 @@ use Rattle.ml_tree.specs.declared.types.DeclBody.TheVariants as b
 use Rattle.ml_tree.specs.declared.reference.TyRef.{TyRef}
 use Rattle.ml_tree.specs.declared.reference.TyRef.TheVariants as r
 use Rattle.ml_types.specs.Types.{Head, ConHead, TupleHead, ArrowHead, Tree, Leaf, Node, Trees, Nil, Cons}
-use Rattle.ml_decls.specs.Programs.{find}
+use Rattle.ml_decls.specs.Lists.{find}
 
 -- ---- the type that a type expression writes; names of abbreviations stay as they are
 

@@ -1,6 +1,5 @@
 -- Declarations over a table of types.
-use Rattle.std.specs.Prelude.{◌≡◌, ℕ, ◌<◌, List, [], ◌∷◌, ◌++◌, map, length, flat_map, Option, Some, None, slice_get, All}
-use Rattle.std.specs.Option.{option_map}
+use Rattle.std.specs.Prelude.{◌≡◌, ℕ, ◌<◌, List, [], ◌∷◌, ◌++◌, map, length, Option, Some, None, slice_get, slice_index_or}
 use Rattle.std.specs.List.{range_with_len}
 use Rattle.ml_tree.specs.declared.types.Decl.{Decl}
 use Rattle.ml_tree.specs.declared.reference.TyRef.{TyRef}
@@ -11,40 +10,35 @@ use Rattle.ml_types.specs.declared.declared.DeclInfo.{DeclInfo}
 use Rattle.ml_types.specs.declared.declared.ConInfo.{ConInfo}
 use Rattle.ml_types.specs.declared.declared.FieldInfo.{FieldInfo}
 use Rattle.ml_types.specs.declared.declared.ArgInfo.{ArgInfo}
-use Rattle.ml_types.specs.Types.{Head, head_of, parts_of, Tree, Leaf, Node, trees}
+use Rattle.ml_types.specs.Types.{Head, ConHead, TupleHead, ArrowHead, head_of, parts_of, Tree, Leaf, Node, Trees, Nil, Cons, trees}
 use Rattle.ml_decls.specs.Said.{SaidArg, SaidCon, SaidField, Said, said, predefined}
 
--- t gives the type of each id of a table
-pub record Gives (nodes : List TyNode) (t : TyId → Tree) : Type 0 where
-  pub made : (x : TyId) (n : TyNode) (h : Head) → slice_get nodes x.0 ≡ Some n → head_of n ≡ Some h → t x ≡ Node h (trees t (parts_of n))
-  pub variable : (x : TyId) (v : ℕ) → slice_get nodes x.0 ≡ Some (Var v) → t x ≡ Leaf v
+-- ---- the types of the ids of a table, in which the parts of a node stand before it
 
--- ---- what a declaration over a table says, where t gives the type of each id
+abbrev pub tree_in : List Tree → TyId → Tree
+tree_in ts x = slice_index_or ts x.0 (Leaf 0)
 
-module _ (t : TyId → Tree) where
-  abbrev pub arg_says : ArgInfo → SaidArg
-  arg_says a = record { words = a.words; ty = t a.ty }
+-- the type of a node, where ts are the types of those before it
+abbrev pub tree_of : List Tree → TyNode → Tree
+tree_of ts (Var v) = Leaf v
+tree_of ts (Con d args) = Node (ConHead d (length args)) (trees (tree_in ts) args)
+tree_of ts (Tuple parts) = Node (TupleHead (length parts)) (trees (tree_in ts) parts)
+tree_of ts (Arrow slot from to) = Node ArrowHead (Cons (tree_in ts from) (Cons (tree_in ts to) Nil))
 
-  abbrev pub con_says : ConInfo → SaidCon
-  con_says c = record { name = c.name; args = map arg_says c.args }
+abbrev pub trees_from : List Tree → List TyNode → List Tree
+trees_from ts [] = ts
+trees_from ts (n ∷ ns) = trees_from (ts ++ tree_of ts n ∷ []) ns
 
-  abbrev pub field_says : FieldInfo → SaidField
-  field_says f = record { name = f.name; arg = arg_says f.arg }
+abbrev pub trees_of : List TyNode → List Tree
+trees_of nodes = trees_from [] nodes
 
-  abbrev pub says : DeclInfo → Said
-  says d = record { name = d.name; vars = d.vars; cons = map con_says d.cons; fields = map field_says d.fields; alias = option_map t d.alias }
+-- the id has this type
+abbrev pub HasType : List TyNode → TyId → Tree → Type 0
+HasType nodes x t = slice_get (trees_of nodes) x.0 ≡ Some t
 
--- ---- the ids of a declaration
-
-abbrev pub con_ids : ConInfo → List TyId
-con_ids c = map (λ (a : ArgInfo). a.ty) c.args
-
-abbrev pub alias_ids : Option TyId → List TyId
-alias_ids None = []
-alias_ids (Some x) = x ∷ []
-
-abbrev pub ids : DeclInfo → List TyId
-ids d = flat_map con_ids d.cons ++ map (λ (f : FieldInfo). f.arg.ty) d.fields ++ alias_ids d.alias
+-- the parts of a node stand before it, so that no id reaches itself
+abbrev pub PartsBefore : List TyNode → Type 0
+PartsBefore nodes = (i : ℕ) (n : TyNode) (k : ℕ) (p : TyId) → slice_get nodes i ≡ Some n → slice_get (parts_of n) k ≡ Some p → p.0 < i
 
 -- ---- the slots of the arrows
 
@@ -55,15 +49,52 @@ slot_of (Tuple parts) = []
 slot_of (Arrow slot from to) = slot ∷ []
 
 abbrev pub slots : List TyNode → List ℕ
-slots nodes = flat_map slot_of nodes
+slots [] = []
+slots (n ∷ ns) = slot_of n ++ slots ns
+
+-- ---- what a declaration over a table says
+
+-- the items of two lists are related one by one
+abbrev pub Each : {A B : Type 0} → (A → B → Type 0) → List A → List B → Type 0
+Each R [] [] = Unit {0}
+Each R [] (y ∷ ys) = ⊥
+Each R (x ∷ xs) [] = ⊥
+Each R (x ∷ xs) (y ∷ ys) = R x y × Each R xs ys
+
+module _ (nodes : List TyNode) where
+  pub record ArgSays (a : ArgInfo) (said : SaidArg) : Type 0 where
+    pub words : a.words ≡ said.words
+    pub ty : HasType nodes a.ty said.ty
+
+  pub record ConSays (c : ConInfo) (said : SaidCon) : Type 0 where
+    pub name : c.name ≡ said.name
+    pub args : Each ArgSays c.args said.args
+
+  pub record FieldSays (f : FieldInfo) (said : SaidField) : Type 0 where
+    pub name : f.name ≡ said.name
+    pub arg : ArgSays f.arg said.arg
+
+  abbrev pub AliasSays : Option TyId → Option Tree → Type 0
+  AliasSays None None = Unit {0}
+  AliasSays None (Some t) = ⊥
+  AliasSays (Some x) None = ⊥
+  AliasSays (Some x) (Some t) = HasType nodes x t
+
+  pub record Says (d : DeclInfo) (said : Said) : Type 0 where
+    pub name : d.name ≡ said.name
+    pub vars : d.vars ≡ said.vars
+    pub cons : Each ConSays d.cons said.cons
+    pub fields : Each FieldSays d.fields said.fields
+    pub alias : AliasSays d.alias said.alias
 
 -- the predefined and the written declarations at their types, in the order of their numbers
 pub record Declares (types : List (ℕ × TyRef)) (ds : List Decl) (infos : List DeclInfo) (nodes : List TyNode) : Type 0 where
-  -- the parts of a node stand before it, so that no id reaches itself
-  pub parts_before : (x : TyId) (n : TyNode) (i : ℕ) (p : TyId) → slice_get nodes x.0 ≡ Some n → slice_get (parts_of n) i ≡ Some p → p.0 < x.0
-  pub within : All (λ (x : TyId). x.0 < length nodes) (flat_map ids infos)
+  pub before : PartsBefore nodes
   -- each arrow has a slot of its own, and the slots are counted from 0 on
-  pub slots_count : slots nodes ≡ range_with_len 0 (length (slots nodes))
-  pub tree : TyId → Tree
-  pub gives : Gives nodes tree
-  pub are : map (says tree) infos ≡ predefined ++ map (said types) ds
+  pub own_slots : slots nodes ≡ range_with_len 0 (length (slots nodes))
+  pub say : Each (Says nodes) infos (predefined ++ map (said types) ds)
+
+-- the table grew at its end
+pub record Grows (before after : List TyNode) : Type 0 where
+  pub more : List TyNode
+  pub is : after ≡ before ++ more

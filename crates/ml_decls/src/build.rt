@@ -1,96 +1,21 @@
 //! The declarations of a program at their types.
-use crate::items::{count, declarations};
-use crate::table::{Making, push_arg, push_type};
-use ml_tree::{Arg, ConDecl, ConName, Decl, DeclBody, FieldDecl, Item, Scoped, Words};
-use ml_types::{ArgInfo, ConInfo, DeclInfo, Decls, FieldInfo, TyId, TyNode, TyTable};
+ghost use Rattle.std.specs.Prelude.{◌≡◌, [], ◌++◌, List, map, Some, None, IfOk, OnOk};
+ghost use Rattle.ml_decls.specs.Programs.{declarations};
+ghost use Rattle.ml_decls.specs.Said.{Said, written, said_arg, said_con, said_field, said, predefined};
+ghost use Rattle.ml_decls.specs.Tables.{Each, ArgSays, ConSays, FieldSays, Says, Grows, Declares};
+
+use crate::outline::item_declarations;
+use crate::predefined::{empty, predefined};
+use crate::table::{Making, count, push_arg, push_type};
+use ml_tree::{Arg, ConDecl, ConName, Decl, DeclBody, FieldDecl, Item, Scoped, TyExpr};
+use ml_types::{ArgInfo, ConInfo, DeclInfo, Decls, FieldInfo, TyTable};
 use oxml_base::{Items, NoMemory, Span};
 use std::alloc::Global;
 
-/// The place of the names of what is predefined.
-const NOWHERE: Span = Span { start: 0, end: 0 };
-
-const NO_WORDS: Words = Words {
-    loc: None,
-    uni: None,
-    aff: None,
-};
-
-/// A declaration without constructors, fields and abbreviated type.
-fn empty(alloc: Global, name: Span, vars: u32) -> DeclInfo {
-    DeclInfo {
-        name,
-        vars,
-        cons: Items::new(alloc),
-        fields: Items::new(alloc),
-        alias: None,
-    }
-}
-
-// ---- what is predefined
-
-/// A predefined constructor of fields of these types.
-fn constructor(alloc: Global, name: ConName, types: &[TyId]) -> Result<ConInfo, NoMemory> {
-    let mut args = Items::new(alloc);
-    for ty in types {
-        args.push(ArgInfo {
-            words: NO_WORDS,
-            ty: *ty,
-        })?;
-    }
-    Ok(ConInfo { name, args })
-}
-
-/// A predefined type of so many variables with two constructors.
-fn two(alloc: Global, vars: u32, first: ConInfo, second: ConInfo) -> Result<DeclInfo, NoMemory> {
-    let mut info = empty(alloc, NOWHERE, vars);
-    info.cons.push(first)?;
-    info.cons.push(second)?;
-    Ok(info)
-}
-
-fn bool_info(alloc: Global) -> Result<DeclInfo, NoMemory> {
-    let first = constructor(alloc, ConName::False, &[])?;
-    let second = constructor(alloc, ConName::True, &[])?;
-    two(alloc, 0, first, second)
-}
-
-fn unit_info(alloc: Global) -> Result<DeclInfo, NoMemory> {
-    let mut info = empty(alloc, NOWHERE, 0);
-    info.cons.push(constructor(alloc, ConName::Unit, &[])?)?;
-    Ok(info)
-}
-
-/// Lists: `[]`, and `::` of an element and a list.
-fn list_info(alloc: Global, element: TyId, list: TyId) -> Result<DeclInfo, NoMemory> {
-    let first = constructor(alloc, ConName::Nil, &[])?;
-    let second = constructor(alloc, ConName::Named(NOWHERE), &[element, list])?;
-    two(alloc, 1, first, second)
-}
-
-fn option_info(alloc: Global, element: TyId) -> Result<DeclInfo, NoMemory> {
-    let first = constructor(alloc, ConName::Named(NOWHERE), &[])?;
-    let second = constructor(alloc, ConName::Named(NOWHERE), &[element])?;
-    two(alloc, 1, first, second)
-}
-
-/// The predefined declarations: int, char, string, bool, unit, list and option.
-fn predefined(alloc: Global, made: &mut Making) -> Result<Items<DeclInfo>, NoMemory> {
-    let element = made.push(TyNode::Var(0))?;
-    let list = made.push(TyNode::Con(5, Items::from_slice(alloc, &[element])?))?;
-    let mut infos = Items::new(alloc);
-    infos.push(empty(alloc, NOWHERE, 0))?;
-    infos.push(empty(alloc, NOWHERE, 0))?;
-    infos.push(empty(alloc, NOWHERE, 0))?;
-    infos.push(bool_info(alloc)?)?;
-    infos.push(unit_info(alloc)?)?;
-    infos.push(list_info(alloc, element, list)?)?;
-    infos.push(option_info(alloc, element)?)?;
-    Ok(infos)
-}
-
-// ---- what is written
-
-fn arg_infos(s: &Scoped, list: &[Arg], made: &mut Making) -> Result<Items<ArgInfo>, NoMemory> {
+fn arg_infos(s: &Scoped, list: &[Arg], made: &mut Making) -> Result<Items<ArgInfo>, NoMemory>
+    ensures grows { OnOk result (Grows made.old.nodes made.new.nodes) }
+    ensures say { IfOk result (λ infos. Each (ArgSays made.new.nodes) infos (map (said_arg s.now.types) list.now)) }
+{
     let mut infos = Items::new(made.alloc());
     for one in list {
         infos.push(push_arg(s, one, made)?)?;
@@ -98,14 +23,20 @@ fn arg_infos(s: &Scoped, list: &[Arg], made: &mut Making) -> Result<Items<ArgInf
     Ok(infos)
 }
 
-fn con_info(s: &Scoped, one: &ConDecl, made: &mut Making) -> Result<ConInfo, NoMemory> {
+fn con_info(s: &Scoped, one: &ConDecl, made: &mut Making) -> Result<ConInfo, NoMemory>
+    ensures grows { OnOk result (Grows made.old.nodes made.new.nodes) }
+    ensures says { IfOk result (λ info. ConSays made.new.nodes info (said_con s.now.types one.now)) }
+{
     Ok(ConInfo {
         name: ConName::Named(one.name),
         args: arg_infos(s, one.args.as_slice(), made)?,
     })
 }
 
-fn con_infos(s: &Scoped, list: &[ConDecl], made: &mut Making) -> Result<Items<ConInfo>, NoMemory> {
+fn con_infos(s: &Scoped, list: &[ConDecl], made: &mut Making) -> Result<Items<ConInfo>, NoMemory>
+    ensures grows { OnOk result (Grows made.old.nodes made.new.nodes) }
+    ensures say { IfOk result (λ infos. Each (ConSays made.new.nodes) infos (map (said_con s.now.types) list.now)) }
+{
     let mut infos = Items::new(made.alloc());
     for one in list {
         infos.push(con_info(s, one, made)?)?;
@@ -113,50 +44,129 @@ fn con_infos(s: &Scoped, list: &[ConDecl], made: &mut Making) -> Result<Items<Co
     Ok(infos)
 }
 
+fn field_info(s: &Scoped, one: &FieldDecl, made: &mut Making) -> Result<FieldInfo, NoMemory>
+    ensures grows { OnOk result (Grows made.old.nodes made.new.nodes) }
+    ensures says { IfOk result (λ info. FieldSays made.new.nodes info (said_field s.now.types one.now)) }
+{
+    Ok(FieldInfo {
+        name: one.name,
+        arg: push_arg(s, &one.arg, made)?,
+    })
+}
+
 fn field_infos(
     s: &Scoped,
     list: &[FieldDecl],
     made: &mut Making,
-) -> Result<Items<FieldInfo>, NoMemory> {
+) -> Result<Items<FieldInfo>, NoMemory>
+    ensures grows { OnOk result (Grows made.old.nodes made.new.nodes) }
+    ensures say { IfOk result (λ infos. Each (FieldSays made.new.nodes) infos (map (said_field s.now.types) list.now)) }
+{
     let mut infos = Items::new(made.alloc());
     for one in list {
-        infos.push(FieldInfo {
-            name: one.name,
-            arg: push_arg(s, &one.arg, made)?,
-        })?;
+        infos.push(field_info(s, one, made)?)?;
     }
     Ok(infos)
 }
 
-fn decl_info(s: &Scoped, one: &Decl, made: &mut Making) -> Result<DeclInfo, NoMemory> {
-    let mut info = empty(made.alloc(), one.name, count(one.vars.len())?);
-    match &one.body {
-        DeclBody::Variant(list) => info.cons = con_infos(s, list.as_slice(), made)?,
-        DeclBody::Fields(list) => info.fields = field_infos(s, list.as_slice(), made)?,
-        DeclBody::Alias(ty) => info.alias = Some(push_type(s, ty, made)?),
-    }
+/// A variant of so many variables.
+fn variant_info(
+    s: &Scoped,
+    name: Span,
+    vars: u32,
+    list: &[ConDecl],
+    made: &mut Making,
+) -> Result<DeclInfo, NoMemory>
+    ensures grows { OnOk result (Grows made.old.nodes made.new.nodes) }
+    ensures says { IfOk result (λ info. Says made.new.nodes info record { name = name; vars = vars; cons = map (said_con s.now.types) list.now; fields = []; alias = None }) }
+{
+    let mut info = empty(made.alloc(), name, vars);
+    info.cons = con_infos(s, list, made)?;
     Ok(info)
 }
 
+/// A record of so many variables.
+fn record_info(
+    s: &Scoped,
+    name: Span,
+    vars: u32,
+    list: &[FieldDecl],
+    made: &mut Making,
+) -> Result<DeclInfo, NoMemory>
+    ensures grows { OnOk result (Grows made.old.nodes made.new.nodes) }
+    ensures says { IfOk result (λ info. Says made.new.nodes info record { name = name; vars = vars; cons = []; fields = map (said_field s.now.types) list.now; alias = None }) }
+{
+    let mut info = empty(made.alloc(), name, vars);
+    info.fields = field_infos(s, list, made)?;
+    Ok(info)
+}
+
+/// An abbreviation of so many variables. The names of other abbreviations stay in its type.
+fn alias_info(
+    s: &Scoped,
+    name: Span,
+    vars: u32,
+    ty: &TyExpr,
+    made: &mut Making,
+) -> Result<DeclInfo, NoMemory>
+    ensures grows { OnOk result (Grows made.old.nodes made.new.nodes) }
+    ensures says { IfOk result (λ info. Says made.new.nodes info record { name = name; vars = vars; cons = []; fields = []; alias = Some (written s.now.types ty.now) }) }
+{
+    let mut info = empty(made.alloc(), name, vars);
+    info.alias = Some(push_type(s, ty, made)?);
+    Ok(info)
+}
+
+fn decl_info(s: &Scoped, one: &Decl, made: &mut Making) -> Result<DeclInfo, NoMemory>
+    ensures grows { OnOk result (Grows made.old.nodes made.new.nodes) }
+    ensures says { IfOk result (λ info. Says made.new.nodes info (said s.now.types one.now)) }
+{
+    let vars = count(one.vars.len())?;
+    match &one.body {
+        DeclBody::Variant(list) => variant_info(s, one.name, vars, list.as_slice(), made),
+        DeclBody::Fields(list) => record_info(s, one.name, vars, list.as_slice(), made),
+        DeclBody::Alias(ty) => alias_info(s, one.name, vars, ty, made),
+    }
+}
+
+/// Adds the declarations of an item.
 fn push_infos(
     s: &Scoped,
     list: &[Decl],
     infos: &mut Items<DeclInfo>,
     made: &mut Making,
-) -> Result<(), NoMemory> {
+) -> Result<(), NoMemory>
+    ensures grows { OnOk result (Grows made.old.nodes made.new.nodes) }
+    ensures say { OnOk result ((before : List Said) → Each (Says made.old.nodes) infos.old before → Each (Says made.new.nodes) infos.new (before ++ map (said s.now.types) list.now)) }
+{
     for one in list {
         infos.push(decl_info(s, one, made)?)?;
     }
     Ok(())
 }
 
-/// The declarations of a program, the predefined ones first, with the table of their types.
-pub fn declare(alloc: Global, s: &Scoped, items: &[Item]) -> Result<(Decls, TyTable), NoMemory> {
-    let mut made = Making::new(alloc);
-    let mut types = predefined(alloc, &mut made)?;
+/// Adds the declarations of these items.
+fn push_items(
+    s: &Scoped,
+    items: &[Item],
+    infos: &mut Items<DeclInfo>,
+    made: &mut Making,
+) -> Result<(), NoMemory>
+    ensures { OnOk result ((before : List Said) → Each (Says made.old.nodes) infos.old before → Each (Says made.new.nodes) infos.new (before ++ map (said s.now.types) (declarations items.now))) }
+{
     for item in items {
-        push_infos(s, declarations(item), &mut types, &mut made)?;
+        push_infos(s, item_declarations(&item.kind), infos, made)?;
     }
+    Ok(())
+}
+
+/// The declarations of a program, the predefined ones first, with the table of their types.
+pub fn declare(alloc: Global, s: &Scoped, items: &[Item]) -> Result<(Decls, TyTable), NoMemory>
+    ensures { IfOk result (λ made. Declares s.now.types (declarations items.now) made.0.types made.1.nodes) }
+{
+    let mut made = Making::new(alloc);
+    let mut types = predefined(&mut made)?;
+    push_items(s, items, &mut types, &mut made)?;
     let Making { nodes, .. } = made;
     Ok((Decls { types }, TyTable { nodes }))
 }

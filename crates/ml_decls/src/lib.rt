@@ -1,17 +1,18 @@
 //! The declarations of types: whether they are well formed, and the types that they declare.
 #![tactic(auto)]
 
-mod annotations;
-mod arguments;
 mod build;
 mod checking;
 mod cycles;
-mod graph;
-mod items;
+mod mentions;
 mod names;
 mod offences;
+mod outline;
+mod predefined;
+mod references;
 mod table;
 #[cfg(test)]
 mod tests;
+mod written;
 
 pub use checking::{DeclErr, check_decls};

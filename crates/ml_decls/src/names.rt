@@ -1,93 +1,131 @@
 //! Names that are declared twice.
-use crate::items::declarations;
+ghost use Rattle.std.specs.Prelude.{◌≡◌, ◌||◌, ℕ, List, [], ◌++◌, map, take, drop, IfOk, OnOk};
+ghost use Rattle.std.specs.Str.{bytes_eq};
+ghost use Rattle.ml_decls.specs.declared.outline.Outline.{Outline};
+ghost use Rattle.ml_decls.specs.Lists.{all};
+ghost use Rattle.ml_decls.specs.Offences.{spelling};
+ghost use Rattle.ml_decls.specs.Verdicts.{has, twice, all_twice};
+
 use crate::offences::offence_where;
+use crate::outline::Outline;
 use indexmap::IndexSet;
-use ml_tree::{ConDecl, Decl, DeclBody, FieldDecl, Item};
 use oxml_base::{Items, NoMemory, Refusal, Rule, Span};
 use std::alloc::Global;
 
-/// The names that a program declares, one list for each kind.
-#[derive(Drop)]
-struct Declared {
-    types: Items<Span>,
-    constructors: Items<Span>,
-    fields: Items<Span>,
-}
+// ---- the names of each kind
 
-fn push_constructors(list: &[ConDecl], names: &mut Items<Span>) -> Result<(), NoMemory> {
-    for one in list {
+fn type_names(alloc: Global, outlines: &[Outline]) -> Result<Items<Span>, NoMemory>
+    ensures { IfOk result (λ names. names ≡ map (λ (o : Outline). o.name) outlines.now) }
+{
+    let mut names = Items::new(alloc);
+    for one in outlines {
         names.push(one.name)?;
-    }
-    Ok(())
-}
-
-fn push_fields(list: &[FieldDecl], names: &mut Items<Span>) -> Result<(), NoMemory> {
-    for one in list {
-        names.push(one.name)?;
-    }
-    Ok(())
-}
-
-fn push_declaration(one: &Decl, names: &mut Declared) -> Result<(), NoMemory> {
-    names.types.push(one.name)?;
-    match &one.body {
-        DeclBody::Variant(list) => push_constructors(list.as_slice(), &mut names.constructors),
-        DeclBody::Fields(list) => push_fields(list.as_slice(), &mut names.fields),
-        DeclBody::Alias(_) => Ok(()),
-    }
-}
-
-fn push_declarations(list: &[Decl], names: &mut Declared) -> Result<(), NoMemory> {
-    for one in list {
-        push_declaration(one, names)?;
-    }
-    Ok(())
-}
-
-fn declared(alloc: Global, items: &[Item]) -> Result<Declared, NoMemory> {
-    let mut names = Declared {
-        types: Items::new(alloc),
-        constructors: Items::new(alloc),
-        fields: Items::new(alloc),
-    };
-    for item in items {
-        push_declarations(declarations(item), &mut names)?;
     }
     Ok(names)
 }
 
-/// The bytes at a place of a text.
-fn spelling(text: &[u8], place: Span) -> &[u8] {
-    let end = (place.end as usize).min(text.len());
-    let start = (place.start as usize).min(end);
-    &text[start..end]
+fn push_spans(spans: &[Span], names: &mut Items<Span>) -> Result<(), NoMemory>
+    ensures { OnOk result (names.new ≡ names.old ++ spans.now) }
+{
+    for one in spans {
+        names.push(*one)?;
+    }
+    Ok(())
 }
 
-/// Reports each name of a list that stands in it before.
+fn constructor_names(alloc: Global, outlines: &[Outline]) -> Result<Items<Span>, NoMemory>
+    ensures { IfOk result (λ names. names ≡ all (map (λ (o : Outline). o.constructors) outlines.now)) }
+{
+    let mut names = Items::new(alloc);
+    for one in outlines {
+        push_spans(one.constructors.as_slice(), &mut names)?;
+    }
+    Ok(names)
+}
+
+fn field_names(alloc: Global, outlines: &[Outline]) -> Result<Items<Span>, NoMemory>
+    ensures { IfOk result (λ names. names ≡ all (map (λ (o : Outline). o.fields) outlines.now)) }
+{
+    let mut names = Items::new(alloc);
+    for one in outlines {
+        push_spans(one.fields.as_slice(), &mut names)?;
+    }
+    Ok(names)
+}
+
+// ---- names that stand in a list before
+
+/// What stands from a place on.
+fn behind(text: &[u8], start: usize) -> &[u8]
+    ensures { result.now ≡ drop start text.now }
+{
+    if start < text.len() {
+        &text[start..]
+    } else {
+        &[]
+    }
+}
+
+/// The first so many bytes, or all where there are fewer.
+fn first(text: &[u8], count: usize) -> &[u8]
+    ensures { result.now ≡ take count text.now }
+{
+    if count < text.len() {
+        &text[..count]
+    } else {
+        text
+    }
+}
+
+/// The bytes at a place of a text.
+fn bytes_at(text: &[u8], place: Span) -> &[u8]
+    ensures { result.now ≡ spelling text.now place }
+{
+    let length = place.end.saturating_sub(place.start);
+    first(behind(text, place.start as usize), length as usize)
+}
+
+/// Puts a name into a set. The answer is whether it was there.
+fn note(seen: &mut IndexSet<Vec<u8>>, name: Vec<u8>) -> Result<bool, NoMemory>
+    ensures was { IfOk result (λ was. was ≡ has (λ key. key.items) seen.old.keys name.items) }
+    ensures now { OnOk result ((other : List ℕ) → has (λ key. key.items) seen.new.keys other ≡ (bytes_eq other name.items || has (λ key. key.items) seen.old.keys other)) }
+{
+    let (_, added) = seen.insert_full(name)?;
+    Ok(!added)
+}
+
+/// Adds a violation for each name of a list that stands in it before.
 fn report_twice(
     alloc: Global,
     text: &[u8],
     names: &[Span],
     offences: &mut Items<Refusal>,
-) -> Result<(), NoMemory> {
+) -> Result<(), NoMemory>
+    ensures { OnOk result (offences.new ≡ offences.old ++ twice text.now [] names.now) }
+{
     let mut seen = IndexSet::new(alloc);
     for name in names {
-        let key = Vec::from_slice(alloc, spelling(text, *name))?;
-        let (_, added) = seen.insert_full(key)?;
-        offence_where(!added, Rule::DeclaredTwice, *name, offences)?;
+        let key = Vec::from_slice(alloc, bytes_at(text, *name))?;
+        let was = note(&mut seen, key)?;
+        offence_where(was, Rule::DeclaredTwice, *name, offences)?;
     }
     Ok(())
 }
 
-/// Reports each type, constructor and field whose name is that of an earlier one of its kind.
-pub fn check_names(
+/// Adds a violation for each type, constructor and field whose name is that of an earlier one of its
+/// kind.
+pub fn report_names(
     alloc: Global,
     text: &[u8],
-    items: &[Item],
+    outlines: &[Outline],
     offences: &mut Items<Refusal>,
-) -> Result<(), NoMemory> {
-    let names = declared(alloc, items)?;
-    report_twice(alloc, text, names.types.as_slice(), offences)?;
-    report_twice(alloc, text, names.constructors.as_slice(), offences)?;
-    report_twice(alloc, text, names.fields.as_slice(), offences)
+) -> Result<(), NoMemory>
+    ensures { OnOk result (offences.new ≡ offences.old ++ all_twice text.now outlines.now) }
+{
+    let types = type_names(alloc, outlines)?;
+    report_twice(alloc, text, types.as_slice(), offences)?;
+    let constructors = constructor_names(alloc, outlines)?;
+    report_twice(alloc, text, constructors.as_slice(), offences)?;
+    let fields = field_names(alloc, outlines)?;
+    report_twice(alloc, text, fields.as_slice(), offences)
 }

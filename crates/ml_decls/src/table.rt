@@ -1,26 +1,49 @@
 //! Written types as nodes of a table.
-use crate::items::count;
+ghost use Rattle.std.specs.Prelude.{◌≡◌, ◌<◌, ℕ, List, [], ◌∷◌, ◌++◌, length, map, slice_get, Some, IfOk, OnOk};
+ghost use Rattle.std.specs.List.{range_with_len};
+ghost use Rattle.ml_types.specs.Types.{parts_of, Tree, Node, Cons, Nil, TupleHead, ArrowHead};
+ghost use Rattle.ml_types.specs.declared.node.TyId.{TyId};
+ghost use Rattle.ml_types.specs.declared.node.TyNode.TheVariants.{Var, Con, Tuple, Arrow};
+ghost use Rattle.ml_decls.specs.Lists.{find};
+ghost use Rattle.ml_decls.specs.Said.{type_named, listed, written, kind_written, arg_written, said_arg};
+ghost use Rattle.ml_decls.specs.Tables.{PartsBefore, HasType, Each, ArgSays, Grows, slots, slot_of};
+
+use crate::references::target;
 use ml_tree::{Arg, Scoped, TyExpr, TyKind, TyRef};
 use ml_types::{ArgInfo, TyId, TyNode};
 use oxml_base::{Items, NoMemory};
 use std::alloc::Global;
 
-/// A table of types in the making. The parts of a node stand before it.
+/// A table of types in the making.
 #[derive(Drop)]
 pub struct Making {
     alloc: Global,
     pub nodes: Items<TyNode>,
     /// How many arrows have a slot.
-    slots: u32,
+    arrows: u32,
+    ghost before: { PartsBefore nodes },
+    ghost own_slots: { slots nodes ≡ range_with_len 0 arrows },
+}
+
+/// A length as a number of 32 bits; a tree has fewer parts of any kind.
+pub fn count(length: usize) -> Result<u32, NoMemory>
+    ensures { IfOk result (λ n. n ≡ length) }
+{
+    match u32::try_from(length) {
+        Ok(n) => Ok(n),
+        Err(_) => Err(NoMemory),
+    }
 }
 
 impl Making {
     /// A table without a node.
-    pub fn new(alloc: Global) -> Making {
+    pub fn new(alloc: Global) -> Making
+        ensures { result.nodes ≡ [] }
+    {
         Making {
             alloc,
             nodes: Items::new(alloc),
-            slots: 0,
+            arrows: 0,
         }
     }
 
@@ -28,67 +51,129 @@ impl Making {
         self.alloc
     }
 
-    /// One node more. The answer is its place.
-    pub fn push(&mut self, node: TyNode) -> Result<TyId, NoMemory> {
+    /// One node more, which is no function type. The answer is its place.
+    pub fn push(&mut self, node: TyNode) -> Result<TyId, NoMemory>
+        requires plain { slot_of node ≡ [] }
+        requires before { (k : ℕ) (p : TyId) → slice_get (parts_of node) k ≡ Some p → p.0 < length self.old.nodes }
+        ensures id { IfOk result (λ id. id.0 ≡ length self.old.nodes) }
+        ensures nodes { OnOk result (self.new.nodes ≡ self.old.nodes ++ node ∷ []) }
+    {
         let id = count(self.nodes.len())?;
         self.nodes.push(node)?;
         Ok(TyId(id))
     }
 
     /// A function type, with a slot of its own.
-    fn push_arrow(&mut self, from: TyId, to: TyId) -> Result<TyId, NoMemory> {
-        let slot = self.slots;
-        self.slots = slot.checked_add(1).ok_or(NoMemory)?;
-        self.push(TyNode::Arrow { slot, from, to })
+    fn push_arrow(&mut self, from: TyId, to: TyId) -> Result<TyId, NoMemory>
+        requires from { from.0 < length self.old.nodes }
+        requires to { to.0 < length self.old.nodes }
+        ensures id { IfOk result (λ id. id.0 ≡ length self.old.nodes) }
+        ensures nodes { OnOk result ((slot : ℕ) × (self.new.nodes ≡ self.old.nodes ++ Arrow slot from to ∷ [])) }
+    {
+        let slot = self.arrows;
+        let arrows = slot.checked_add(1).ok_or(NoMemory)?;
+        let id = count(self.nodes.len())?;
+        self.nodes.push(TyNode::Arrow { slot, from, to })?;
+        self.arrows = arrows;
+        Ok(TyId(id))
     }
+}
 
-    /// What a type expression names, at arguments. Each that is a name or a variable has a
-    /// reference.
-    fn push_named(&mut self, target: Option<TyRef>, args: Items<TyId>) -> Result<TyId, NoMemory> {
-        match target {
-            Some(TyRef::Decl(number)) => self.push(TyNode::Con(number, args)),
-            Some(TyRef::Var(number)) => self.push(TyNode::Var(number)),
-            None => Err(NoMemory),
-        }
+/// What a type expression names, at arguments. Each that is a name or a variable has a reference.
+fn push_named(target: Option<TyRef>, args: Items<TyId>, made: &mut Making) -> Result<TyId, NoMemory>
+    requires { (k : ℕ) (p : TyId) → slice_get args k ≡ Some p → p.0 < length made.old.nodes }
+    ensures grows { OnOk result (Grows made.old.nodes made.new.nodes) }
+    ensures ty { IfOk result (λ id. (ts : List Tree) → Each (HasType made.old.nodes) args ts → HasType made.new.nodes id (type_named ts target)) }
+{
+    match target {
+        Some(TyRef::Decl(number)) => made.push(TyNode::Con(number, args)),
+        Some(TyRef::Var(number)) => made.push(TyNode::Var(number)),
+        None => Err(NoMemory),
     }
+}
+
+/// The product of these types.
+fn push_tuple(parts: Items<TyId>, made: &mut Making) -> Result<TyId, NoMemory>
+    requires { (k : ℕ) (p : TyId) → slice_get parts k ≡ Some p → p.0 < length made.old.nodes }
+    ensures grows { OnOk result (Grows made.old.nodes made.new.nodes) }
+    ensures ty { IfOk result (λ id. (ts : List Tree) → Each (HasType made.old.nodes) parts ts → HasType made.new.nodes id (Node (TupleHead (length ts)) (listed ts))) }
+{
+    made.push(TyNode::Tuple(parts))
 }
 
 /// A type expression as a node. Its parts, from left to right, stand before it.
 #[cycle(types)]
-pub fn push_type(s: &Scoped, ty: &TyExpr, made: &mut Making) -> Result<TyId, NoMemory> {
+pub fn push_type(s: &Scoped, ty: &TyExpr, made: &mut Making) -> Result<TyId, NoMemory>
+    ensures grows { OnOk result (Grows made.old.nodes made.new.nodes) }
+    ensures ty { IfOk result (λ id. HasType made.new.nodes id (written s.now.types ty.now)) }
+{
     push_kind(s, ty.id, &ty.kind, made)
 }
 
 #[cycle(types)]
-fn push_kind(s: &Scoped, id: u32, kind: &TyKind, made: &mut Making) -> Result<TyId, NoMemory> {
+fn push_kind(s: &Scoped, id: u32, kind: &TyKind, made: &mut Making) -> Result<TyId, NoMemory>
+    ensures grows { OnOk result (Grows made.old.nodes made.new.nodes) }
+    ensures ty { IfOk result (λ ty. HasType made.new.nodes ty (kind_written s.now.types kind.now id)) }
+{
     match kind {
-        TyKind::Var(_) => {
-            let none = Items::new(made.alloc());
-            made.push_named(s.type_target(id), none)
-        }
-        TyKind::Con { name: _, args } => {
-            let args = push_types(s, args.as_slice(), made)?;
-            made.push_named(s.type_target(id), args)
-        }
-        TyKind::Tuple(parts) => {
-            let parts = push_types(s, parts.as_slice(), made)?;
-            made.push(TyNode::Tuple(parts))
-        }
-        TyKind::Arrow { from, to } => {
-            let from = push_arg_type(s, from.get(), made)?;
-            let to = push_arg_type(s, to.get(), made)?;
-            made.push_arrow(from, to)
-        }
+        TyKind::Var(_) => push_variable(target(s, id), made),
+        TyKind::Con { name: _, args } => push_applied(s, id, args.as_slice(), made),
+        TyKind::Tuple(parts) => push_product(s, parts.as_slice(), made),
+        TyKind::Arrow { from, to } => push_function(s, from.get(), to.get(), made),
     }
 }
 
+/// A variable.
+fn push_variable(target: Option<TyRef>, made: &mut Making) -> Result<TyId, NoMemory>
+    ensures grows { OnOk result (Grows made.old.nodes made.new.nodes) }
+    ensures ty { IfOk result (λ id. HasType made.new.nodes id (type_named [] target)) }
+{
+    let none = Items::new(made.alloc());
+    push_named(target, none, made)
+}
+
+/// A name behind arguments.
 #[cycle(types)]
-fn push_arg_type(s: &Scoped, arg: &Arg, made: &mut Making) -> Result<TyId, NoMemory> {
+fn push_applied(s: &Scoped, id: u32, args: &[TyExpr], made: &mut Making) -> Result<TyId, NoMemory>
+    ensures grows { OnOk result (Grows made.old.nodes made.new.nodes) }
+    ensures ty { IfOk result (λ ty. HasType made.new.nodes ty (type_named (map (written s.now.types) args.now) (find s.now.types id))) }
+{
+    let args = push_types(s, args, made)?;
+    push_named(target(s, id), args, made)
+}
+
+#[cycle(types)]
+fn push_product(s: &Scoped, parts: &[TyExpr], made: &mut Making) -> Result<TyId, NoMemory>
+    ensures grows { OnOk result (Grows made.old.nodes made.new.nodes) }
+    ensures ty { IfOk result (λ ty. HasType made.new.nodes ty (Node (TupleHead (length parts.now)) (listed (map (written s.now.types) parts.now)))) }
+{
+    let parts = push_types(s, parts, made)?;
+    push_tuple(parts, made)
+}
+
+#[cycle(types)]
+fn push_function(s: &Scoped, from: &Arg, to: &Arg, made: &mut Making) -> Result<TyId, NoMemory>
+    ensures grows { OnOk result (Grows made.old.nodes made.new.nodes) }
+    ensures ty { IfOk result (λ ty. HasType made.new.nodes ty (Node ArrowHead (Cons (arg_written s.now.types from.now) (Cons (arg_written s.now.types to.now) Nil)))) }
+{
+    let from = push_arg_type(s, from, made)?;
+    let to = push_arg_type(s, to, made)?;
+    made.push_arrow(from, to)
+}
+
+#[cycle(types)]
+fn push_arg_type(s: &Scoped, arg: &Arg, made: &mut Making) -> Result<TyId, NoMemory>
+    ensures grows { OnOk result (Grows made.old.nodes made.new.nodes) }
+    ensures ty { IfOk result (λ ty. HasType made.new.nodes ty (arg_written s.now.types arg.now)) }
+{
     push_type(s, &arg.ty, made)
 }
 
 #[cycle(types)]
-fn push_types(s: &Scoped, list: &[TyExpr], made: &mut Making) -> Result<Items<TyId>, NoMemory> {
+fn push_types(s: &Scoped, list: &[TyExpr], made: &mut Making) -> Result<Items<TyId>, NoMemory>
+    ensures grows { OnOk result (Grows made.old.nodes made.new.nodes) }
+    ensures types { IfOk result (λ ids. Each (HasType made.new.nodes) ids (map (written s.now.types) list.now)) }
+{
     let mut ids = Items::new(made.alloc());
     for one in list {
         ids.push(push_type(s, one, made)?)?;
@@ -97,9 +182,12 @@ fn push_types(s: &Scoped, list: &[TyExpr], made: &mut Making) -> Result<Items<Ty
 }
 
 /// The type of a constructor's or record's field, with the words before it.
-pub fn push_arg(s: &Scoped, arg: &Arg, made: &mut Making) -> Result<ArgInfo, NoMemory> {
+pub fn push_arg(s: &Scoped, arg: &Arg, made: &mut Making) -> Result<ArgInfo, NoMemory>
+    ensures grows { OnOk result (Grows made.old.nodes made.new.nodes) }
+    ensures says { IfOk result (λ info. ArgSays made.new.nodes info (said_arg s.now.types arg.now)) }
+{
     Ok(ArgInfo {
         words: arg.words,
-        ty: push_type(s, &arg.ty, made)?,
+        ty: push_arg_type(s, arg, made)?,
     })
 }

@@ -1,6 +1,9 @@
 //! Small programs, whose declarations and first offences were worked out by hand.
 use crate::{DeclErr, check_decls};
-use ml_tree::{Arg, Bind, ConDecl, ConName, Decl, DeclBody, Expr, ExprKind, FieldDecl, Item, ItemKind, Pat, PatKind, Program, Scoped, TyExpr, TyKind, TyRef, Words};
+use ml_tree::{
+    Arg, Bind, ConDecl, ConName, Decl, DeclBody, Expr, ExprKind, FieldDecl, Item, ItemKind, Pat,
+    PatKind, Program, Scoped, TyExpr, TyKind, TyRef, Words,
+};
 use ml_types::{Decls, TyId, TyNode, TyTable};
 use oxml_base::{Items, NoMemory, Refusal, Rule, Span};
 use sqlite_items::Boxed;
@@ -135,11 +138,7 @@ fn declaring(
     resolved(alloc, ItemKind::Types(list), types)
 }
 
-fn resolved(
-    alloc: Global,
-    kind: ItemKind,
-    types: Items<(u32, TyRef)>,
-) -> Result<Scoped, NoMemory> {
+fn resolved(alloc: Global, kind: ItemKind, types: Items<(u32, TyRef)>) -> Result<Scoped, NoMemory> {
     let mut items = Items::new(alloc);
     items.push(Item {
         id: 0,
@@ -269,8 +268,18 @@ fn declared_twice(rt: HostRuntime) -> Result<(), Fail> {
 fn field_declared_twice(rt: HostRuntime) -> Result<(), Fail> {
     let alloc = rt.alloc();
     // `type t = {f : int} type u = {f : int}`
-    let first = record(alloc, span(5, 6), span(10, 11), name(alloc, 0, span(14, 17)))?;
-    let second = record(alloc, span(24, 25), span(29, 30), name(alloc, 1, span(33, 36)))?;
+    let first = record(
+        alloc,
+        span(5, 6),
+        span(10, 11),
+        name(alloc, 0, span(14, 17)),
+    )?;
+    let second = record(
+        alloc,
+        span(24, 25),
+        span(29, 30),
+        name(alloc, 1, span(33, 36)),
+    )?;
     let types = Items::from_slice(alloc, &[(0, TyRef::Decl(0)), (1, TyRef::Decl(0))])?;
     let s = declaring(alloc, two_decls(alloc, first, second)?, types)?;
     let found = check(alloc, "type t = {f : int} type u = {f : int}", &s);
@@ -306,7 +315,12 @@ fn variants_end_a_chain(rt: HostRuntime) -> Result<(), Fail> {
     let alloc = rt.alloc();
     // `type a = r and r = {f : a}`
     let one = alias(alloc, span(5, 6), name(alloc, 0, span(9, 10)));
-    let other = record(alloc, span(15, 16), span(20, 21), name(alloc, 1, span(24, 25)))?;
+    let other = record(
+        alloc,
+        span(15, 16),
+        span(20, 21),
+        name(alloc, 1, span(24, 25)),
+    )?;
     let types = Items::from_slice(alloc, &[(0, TyRef::Decl(8)), (1, TyRef::Decl(7))])?;
     let s = declaring(alloc, two_decls(alloc, one, other)?, types)?;
     let found = check(alloc, "type a = r and r = {f : a}", &s);
@@ -390,7 +404,11 @@ fn arrows_have_slots(rt: HostRuntime) -> Result<(), Fail> {
     let decl = alias(alloc, span(5, 6), outer);
     let types = Items::from_slice(
         alloc,
-        &[(1, TyRef::Decl(0)), (3, TyRef::Decl(0)), (4, TyRef::Decl(0))],
+        &[
+            (1, TyRef::Decl(0)),
+            (3, TyRef::Decl(0)),
+            (4, TyRef::Decl(0)),
+        ],
     )?;
     let s = declaring(alloc, one_decl(alloc, decl)?, types)?;
     let text = "type f = int -> int -> int";
@@ -401,11 +419,13 @@ fn arrows_have_slots(rt: HostRuntime) -> Result<(), Fail> {
     match (table.nodes.get(5), table.nodes.get(6)) {
         (
             Some(TyNode::Arrow { slot, from, to }),
-            Some(TyNode::Arrow {
-                slot: other,
-                from: first,
-                to: rest,
-            }),
+            Some(
+                TyNode::Arrow {
+                    slot: other,
+                    from: first,
+                    to: rest,
+                },
+            ),
         ) => {
             assert_eq!(rt; (*slot, *other), (0, 1));
             assert_eq!(rt; (*from, *to), (TyId(3), TyId(4)));
