@@ -1,4 +1,5 @@
 pub mod Lists
 pub mod Paths
-pub mod Groups
+pub mod Grouped
 pub mod Certificates
+pub mod Walks

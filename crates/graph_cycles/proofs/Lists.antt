@@ -1,6 +1,7 @@
 -- Reads of lists after a push, a write or a `take`.
-use Rattle.std.proofs.Common.{◌≡◌, ℕ, zero, suc, ◌+◌, ◌<◌, ◌≤◌, ◌⊎◌, inl, inr, List, [], ◌∷◌, ◌++◌, length, take, drop, Option, Some, None, slice_get, slice_set, refl, sym, ap, ◌∙◌, arith}
+use Rattle.std.proofs.Common.{◌≡◌, ℕ, zero, suc, ◌+◌, ◌-◌, ◌<◌, ◌≤◌, ◌⊎◌, inl, inr, List, [], ◌∷◌, ◌++◌, length, take, drop, Option, Some, None, slice_get, slice_set, refl, sym, ap, ◌∙◌, arith}
 use Rattle.std.proofs.lemmas.Option.{slice_get_within}
+use Rattle.std.proofs.lemmas.List.{take_all, length-drop}
 use native.Mathlib.Numerals.{unary_clauses}
 
 -- an item after a push is one from before or the one that was pushed
@@ -47,3 +48,7 @@ pub item_at : {X : Type 0} → (xs : List X) (i : ℕ) → i < length xs → (a 
 item_at [] i h = absurd (omega arith)
 item_at (x ∷ xs) zero h = (x, refl)
 item_at (x ∷ xs) (suc i) h = item_at xs i (omega arith)
+
+-- the slice from a place to the end
+pub slice_from : {X : Type 0} → (xs ys : List X) (n : ℕ) → ys ≡ xs → take (length ys - n) (drop n ys) ≡ drop n xs
+slice_from xs ys n e = ap (λ z. take (length z - n) (drop n z)) e ∙ take_all (length xs - n) (drop n xs) (simp length-drop (omega arith))

@@ -1,5 +1,5 @@
 -- What a walk over a graph keeps, and what its answer is checked by.
-use Rattle.std.specs.Prelude.{◌≡◌, ℕ, ◌<◌, ◌≤◌, ◌+◌, List, Some, true, Bool, slice_get, slice_index_or, length, take}
+use Rattle.std.specs.Prelude.{◌≡◌, ◌⊎◌, ℕ, ◌<◌, ◌≤◌, ◌+◌, List, Some, true, Bool, slice_get, slice_index_or, length}
 use Rattle.graph_cycles.specs.Paths.{Edge, Path}
 
 abbrev pub Rise : List ℕ → Type 0
@@ -28,11 +28,10 @@ pub record IsInLast (nodes : List ℕ) (begins : List ℕ) (node : ℕ) (place :
 abbrev pub IsLastBegin : List ℕ → ℕ → Type 0
 IsLastBegin begins begin = (k s : ℕ) → k + 1 ≡ length begins → slice_get begins k ≡ Some s → s ≡ begin
 
--- some of the last begins were dropped, each of which was behind this place
+-- begins behind this place were dropped, and the others kept
 pub record IsMerged (before after : List ℕ) (place : ℕ) : Type 0 where
-  pub count : ℕ
-  pub kept : after ≡ take count before
-  pub dropped : (k s : ℕ) → count ≤ k → slice_get before k ≡ Some s → place < s
+  pub kept : (k s : ℕ) → slice_get after k ≡ Some s → slice_get before k ≡ Some s
+  pub dropped : (k s : ℕ) → slice_get before k ≡ Some s → (slice_get after k ≡ Some s) ⊎ (place < s)
 
 -- each node that is marked leads to itself
 abbrev pub Sound : List (List ℕ) → List Bool → Type 0

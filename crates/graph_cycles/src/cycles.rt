@@ -35,6 +35,7 @@ fn walked(alloc: Global, graph: &[Items<u32>]) -> Result<Walk, NoMemory>
 /// Which nodes of a graph lead to themselves by one edge or several. The graph is the list of each
 /// node's successors; a successor that is no node leads nowhere. Takes time in proportion to the
 /// number of nodes and edges.
+
 pub fn on_cycles(alloc: Global, graph: &[Items<u32>]) -> Result<Vec<bool>, NoMemory>
     ensures { IfOk result (λ marks. (v : ℕ) → (slice_get marks.items v ≡ Some true) ↔ Path graph.now v v) }
 {

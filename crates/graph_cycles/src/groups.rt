@@ -63,13 +63,15 @@ impl Groups {
     }
 
     /// The last groups become one with that of the node at this place, to which the last group leads.
+    #[tactic(auto, using(crate::proofs::Grouped::merged_pop, crate::proofs::Grouped::merged_none))]
     pub fn merge(&mut self, place: usize)
         ensures nodes { self.new.nodes.items ≡ self.old.nodes.items }
         ensures begins { IsMerged self.old.begins.items self.new.begins.items place }
     {
         let count = self.begins.len();
         for _ in 0..count {
-            if self.last_begin() <= place {
+            let begin = self.last_begin();
+            if begin <= place {
                 return;
             }
             let _begin = self.begins.pop();

@@ -33,14 +33,29 @@ fn digits(alloc: Global, count: u32, edges: &[(u32, u32)]) -> Result<Vec<u8>, No
 fn small(rt: HostRuntime) -> Result<(), Fail> {
     let alloc = rt.alloc();
     // A ring of two, from which a third node is reached.
-    assert_eq!(rt; digits(alloc, 3, &[(0, 1), (1, 0), (1, 2)])?.as_slice(), b"110".as_slice());
+    assert_eq!(rt;
+        digits(alloc, 3, &[(0, 1), (1, 0), (1, 2)])?.as_slice(),
+        b"110".as_slice()
+    );
     // An edge to itself; an edge to no node.
-    assert_eq!(rt; digits(alloc, 3, &[(0, 1), (1, 1), (2, 9)])?.as_slice(), b"010".as_slice());
+    assert_eq!(rt;
+        digits(alloc, 3, &[(0, 1), (1, 1), (2, 9)])?.as_slice(),
+        b"010".as_slice()
+    );
     // A node between two rings is on none.
     let between = [(0, 1), (1, 0), (1, 2), (2, 3), (3, 4), (4, 3)];
     assert_eq!(rt; digits(alloc, 5, &between)?.as_slice(), b"11011".as_slice());
     // Two rings that share a node, met from outside, and a second way that leads to a complete group.
-    let shared = [(0, 2), (2, 1), (1, 2), (2, 3), (3, 4), (4, 2), (5, 3), (0, 5)];
+    let shared = [
+        (0, 2),
+        (2, 1),
+        (1, 2),
+        (2, 3),
+        (3, 4),
+        (4, 2),
+        (5, 3),
+        (0, 5),
+    ];
     assert_eq!(rt; digits(alloc, 6, &shared)?.as_slice(), b"011110".as_slice());
     assert_eq!(rt; digits(alloc, 0, &[])?.as_slice(), b"".as_slice());
     Ok(())

@@ -166,11 +166,11 @@ impl Walk {
     fn go_on(&mut self, from: u32, to: u32) -> Result<(), NoMemory>
         ensures { OnOk result ((graph : List (List ℕ)) → Edge graph from to → IsWalk graph self.old → IsWalk graph self.new) }
     {
-        if self.is_in_last(from) {
-            self.enter(to)
-        } else {
-            Err(NoMemory)
+        if !self.is_in_last(from) {
+            return Err(NoMemory);
         }
+        self.enter(to)?;
+        Ok(())
     }
 
     /// An edge leads from a node of the last group to one that was met. Where that one is open, its
@@ -259,12 +259,7 @@ impl Walk {
     }
 
     /// Everything that a node leads to, where it was not met before, in at most so many steps.
-    pub fn explore(
-        &mut self,
-        graph: &[Items<u32>],
-        root: u32,
-        most: usize,
-    ) -> Result<(), NoMemory>
+    pub fn explore(&mut self, graph: &[Items<u32>], root: u32, most: usize) -> Result<(), NoMemory>
         requires { Sound graph.now self.old.cyclic.items }
         ensures { OnOk result (Sound graph.now self.new.cyclic.items) }
     {

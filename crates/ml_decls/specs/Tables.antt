@@ -1,6 +1,5 @@
 -- Declarations over a table of types.
 use Rattle.std.specs.Prelude.{◌≡◌, ℕ, ◌<◌, List, [], ◌∷◌, ◌++◌, map, length, Option, Some, None, slice_get, slice_index_or}
-use Rattle.std.specs.List.{range_with_len}
 use Rattle.ml_tree.specs.declared.types.Decl.{Decl}
 use Rattle.ml_tree.specs.declared.reference.TyRef.{TyRef}
 use Rattle.ml_types.specs.declared.node.TyId.{TyId}
@@ -52,6 +51,10 @@ abbrev pub slots : List TyNode → List ℕ
 slots [] = []
 slots (n ∷ ns) = slot_of n ++ slots ns
 
+-- each arrow has a slot of its own: they are counted from 0 on
+abbrev pub OwnSlots : List TyNode → Type 0
+OwnSlots nodes = (i s : ℕ) → slice_get (slots nodes) i ≡ Some s → s ≡ i
+
 -- ---- what a declaration over a table says
 
 -- the items of two lists are related one by one
@@ -90,8 +93,7 @@ module _ (nodes : List TyNode) where
 -- the predefined and the written declarations at their types, in the order of their numbers
 pub record Declares (types : List (ℕ × TyRef)) (ds : List Decl) (infos : List DeclInfo) (nodes : List TyNode) : Type 0 where
   pub before : PartsBefore nodes
-  -- each arrow has a slot of its own, and the slots are counted from 0 on
-  pub own_slots : slots nodes ≡ range_with_len 0 (length (slots nodes))
+  pub own_slots : OwnSlots nodes
   pub say : Each (Says nodes) infos (predefined ++ map (said types) ds)
 
 -- the table grew at its end

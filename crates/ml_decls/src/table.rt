@@ -1,12 +1,11 @@
 //! Written types as nodes of a table.
 ghost use Rattle.std.specs.Prelude.{◌≡◌, ◌<◌, ℕ, List, [], ◌∷◌, ◌++◌, length, map, slice_get, Some, IfOk, OnOk};
-ghost use Rattle.std.specs.List.{range_with_len};
 ghost use Rattle.ml_types.specs.Types.{parts_of, Tree, Node, Cons, Nil, TupleHead, ArrowHead};
 ghost use Rattle.ml_types.specs.declared.node.TyId.{TyId};
 ghost use Rattle.ml_types.specs.declared.node.TyNode.TheVariants.{Var, Con, Tuple, Arrow};
 ghost use Rattle.ml_decls.specs.Lists.{find};
 ghost use Rattle.ml_decls.specs.Said.{type_named, listed, written, kind_written, arg_written, said_arg};
-ghost use Rattle.ml_decls.specs.Tables.{PartsBefore, HasType, Each, ArgSays, Grows, slots, slot_of};
+ghost use Rattle.ml_decls.specs.Tables.{PartsBefore, HasType, Each, ArgSays, Grows, OwnSlots, slots, slot_of};
 
 use crate::references::target;
 use ml_tree::{Arg, Scoped, TyExpr, TyKind, TyRef};
@@ -22,7 +21,8 @@ pub struct Making {
     /// How many arrows have a slot.
     arrows: u32,
     ghost before: { PartsBefore nodes },
-    ghost own_slots: { slots nodes ≡ range_with_len 0 arrows },
+    ghost own_slots: { OwnSlots nodes },
+    ghost counted: { length (slots nodes) ≡ arrows },
 }
 
 /// A length as a number of 32 bits; a tree has fewer parts of any kind.

@@ -1,0 +1,9 @@
+pub mod Appends
+pub mod Members
+pub mod Firsts
+pub mod Repeats
+pub mod Referring
+pub mod Rings
+pub mod Whole
+pub mod Trees
+pub mod Finds

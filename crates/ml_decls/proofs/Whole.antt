@@ -1,0 +1,111 @@
+-- The list of violations has exactly the violations.
+use Rattle.std.proofs.Common.{◌≡◌, ℕ, ◌⊎◌, inl, inr, List, [], ◌∷◌, ◌++◌, map, refl, sym, ap, ◌∙◌, subst, append_assoc}
+use Rattle.oxml_base.specs.declared.span.Span.{Span}
+use Rattle.oxml_base.specs.declared.refusal.Refusal.{Refusal}
+use Rattle.oxml_base.specs.declared.rule.Rule.{Rule}
+use Rattle.oxml_base.specs.declared.rule.Rule.TheVariants as rule
+use Rattle.ml_tree.specs.declared.types.Decl.{Decl}
+use Rattle.ml_tree.specs.declared.program.Item.{Item}
+use Rattle.ml_tree.specs.declared.reference.TyRef.{TyRef}
+use Rattle.ml_decls.specs.declared.outline.Outline.{Outline}
+use Rattle.ml_decls.specs.Lists.{IsIn, all}
+use Rattle.ml_decls.specs.Programs.{declarations, type_names, constructor_names, field_names, body_constructors, body_fields, outline}
+use Rattle.ml_decls.specs.Offences.{Violates, Offends, IsRepeated, IsDeclaredTwice}
+use Rattle.ml_decls.specs.Verdicts.{twice, all_twice, references, marked_from, ReportsCycles, IsAllOf}
+use Rattle.ml_decls.proofs.Members.{in_left, in_right, in_either, violation}
+use Rattle.ml_decls.proofs.Referring.{references_sound, wrong_count_listed, unlisted_listed, Rule30, Rule31}
+use Rattle.ml_decls.proofs.Repeats.{repeated_sound, repeated_complete}
+use Rattle.ml_decls.proofs.Rings.{cyclic_sound, cyclic_complete}
+
+-- a violation by its rule and its place
+offends_by : (text : List ℕ) (types : List (ℕ × TyRef)) (items : List Item) (kind : Rule) (r : Refusal) → r ≡ violation kind r.span → Violates text types items kind r.span → Offends text types items r
+offends_by text types items kind r e v = let same : kind ≡ r.rule = sym (ap (λ (z : Refusal). z.rule) e) in subst (λ (z : Rule). Violates text types items z r.span) same v
+
+-- ---- the names
+
+type_names_map : (ds : List Decl) → map (λ (o : Outline). o.name) (map outline ds) ≡ type_names ds
+type_names_map [] = refl
+type_names_map (d ∷ ds) = ap (λ z. d.name ∷ z) (type_names_map ds)
+
+constructor_names_map : (ds : List Decl) → all (map (λ (o : Outline). o.constructors) (map outline ds)) ≡ constructor_names ds
+constructor_names_map [] = refl
+constructor_names_map (d ∷ ds) = ap (λ z. body_constructors d.body ++ z) (constructor_names_map ds)
+
+field_names_map : (ds : List Decl) → all (map (λ (o : Outline). o.fields) (map outline ds)) ≡ field_names ds
+field_names_map [] = refl
+field_names_map (d ∷ ds) = ap (λ z. body_fields d.body ++ z) (field_names_map ds)
+
+-- the three lists by the names in the tree
+abbrev named : List ℕ → List Decl → List Refusal
+named text ds = twice text [] (type_names ds) ++ twice text [] (constructor_names ds) ++ twice text [] (field_names ds)
+
+same_twice : (text : List ℕ) (ds : List Decl) → all_twice text (map outline ds) ≡ named text ds
+same_twice text ds = rw (type_names_map ds, constructor_names_map ds, field_names_map ds) refl
+
+named_sound : (text : List ℕ) (ds : List Decl) (r : Refusal) → IsIn r (named text ds) → (r ≡ violation rule.DeclaredTwice r.span) × IsDeclaredTwice text ds r.span
+named_sound text ds r h = by_side (in_either r (twice text [] (type_names ds) ++ twice text [] (constructor_names ds)) (twice text [] (field_names ds)) h)
+  where
+    by_first : IsIn r (twice text [] (type_names ds)) ⊎ IsIn r (twice text [] (constructor_names ds)) → (r ≡ violation rule.DeclaredTwice r.span) × IsDeclaredTwice text ds r.span
+    by_first (inl u) = let s : (r ≡ violation rule.DeclaredTwice r.span) × IsRepeated text (type_names ds) r.span = repeated_sound text (type_names ds) r u in (s.0, inl s.1)
+    by_first (inr u) = let s : (r ≡ violation rule.DeclaredTwice r.span) × IsRepeated text (constructor_names ds) r.span = repeated_sound text (constructor_names ds) r u in (s.0, inr (inl s.1))
+    by_side : IsIn r (twice text [] (type_names ds) ++ twice text [] (constructor_names ds)) ⊎ IsIn r (twice text [] (field_names ds)) → (r ≡ violation rule.DeclaredTwice r.span) × IsDeclaredTwice text ds r.span
+    by_side (inl u) = by_first (in_either r (twice text [] (type_names ds)) (twice text [] (constructor_names ds)) u)
+    by_side (inr u) = let s : (r ≡ violation rule.DeclaredTwice r.span) × IsRepeated text (field_names ds) r.span = repeated_sound text (field_names ds) r u in (s.0, inr (inr s.1))
+
+named_complete : (text : List ℕ) (ds : List Decl) (name : Span) → IsDeclaredTwice text ds name → IsIn (violation rule.DeclaredTwice name) (named text ds)
+named_complete text ds name (inl h) = in_left (violation rule.DeclaredTwice name) (twice text [] (type_names ds) ++ twice text [] (constructor_names ds)) (twice text [] (field_names ds)) (in_left (violation rule.DeclaredTwice name) (twice text [] (type_names ds)) (twice text [] (constructor_names ds)) (repeated_complete text (type_names ds) name h))
+named_complete text ds name (inr (inl h)) = in_left (violation rule.DeclaredTwice name) (twice text [] (type_names ds) ++ twice text [] (constructor_names ds)) (twice text [] (field_names ds)) (in_right (violation rule.DeclaredTwice name) (twice text [] (type_names ds)) (twice text [] (constructor_names ds)) (repeated_complete text (constructor_names ds) name h))
+named_complete text ds name (inr (inr h)) = in_right (violation rule.DeclaredTwice name) (twice text [] (type_names ds) ++ twice text [] (constructor_names ds)) (twice text [] (field_names ds)) (repeated_complete text (field_names ds) name h)
+
+-- ---- all
+
+module _ (text : List ℕ) (types : List (ℕ × TyRef)) (items : List Item) (marks : List Refusal) where
+  abbrev whole : List Refusal
+  whole = references types (map outline (declarations items)) items ++ named text (declarations items) ++ marks
+
+  in_references : (r : Refusal) → IsIn r (references types (map outline (declarations items)) items) → IsIn r whole
+  in_references r h = in_left r (references types (map outline (declarations items)) items ++ named text (declarations items)) marks (in_left r (references types (map outline (declarations items)) items) (named text (declarations items)) h)
+
+  in_named : (r : Refusal) → IsIn r (named text (declarations items)) → IsIn r whole
+  in_named r h = in_left r (references types (map outline (declarations items)) items ++ named text (declarations items)) marks (in_right r (references types (map outline (declarations items)) items) (named text (declarations items)) h)
+
+  in_marks : (r : Refusal) → IsIn r marks → IsIn r whole
+  in_marks r h = in_right r (references types (map outline (declarations items)) items ++ named text (declarations items)) marks h
+
+  in_cases : {P : Type 0} → (r : Refusal) → (IsIn r (references types (map outline (declarations items)) items) → P) → (IsIn r (named text (declarations items)) → P) → (IsIn r marks → P) → IsIn r whole → P
+  in_cases {P = P} r a b c h = by_side (in_either r (references types (map outline (declarations items)) items ++ named text (declarations items)) marks h)
+    where
+      by_first : IsIn r (references types (map outline (declarations items)) items) ⊎ IsIn r (named text (declarations items)) → P
+      by_first (inl u) = a u
+      by_first (inr u) = b u
+      by_side : IsIn r (references types (map outline (declarations items)) items ++ named text (declarations items)) ⊎ IsIn r marks → P
+      by_side (inl u) = by_first (in_either r (references types (map outline (declarations items)) items) (named text (declarations items)) u)
+      by_side (inr u) = c u
+
+whole_sound : (text : List ℕ) (types : List (ℕ × TyRef)) (items : List Item) (start list : List Refusal) (c : ReportsCycles types (map outline (declarations items)) start list) (r : Refusal) → IsIn r (whole text types items (marked_from c.marks 0 (map outline (declarations items)))) → Offends text types items r
+whole_sound text types items start list c r h =
+    in_cases text types items (marked_from c.marks 0 (map outline (declarations items))) r
+      (λ u. elim (references_sound types items r u) [ inl v ↦ offends_by text types items rule.ArgumentCount r v.0 v.1 | inr v ↦ offends_by text types items rule.UnboundVariable r v.0 v.1 ])
+      (λ u. let v : (r ≡ violation rule.DeclaredTwice r.span) × IsDeclaredTwice text (declarations items) r.span = named_sound text (declarations items) r u in offends_by text types items rule.DeclaredTwice r v.0 v.1)
+      (λ u. let v = cyclic_sound types items c.marks r c.exact u in offends_by text types items rule.CyclicAbbreviation r v.0 v.1)
+      h
+
+-- by the rule of a violation
+whole_complete : (text : List ℕ) (types : List (ℕ × TyRef)) (items : List Item) (start list : List Refusal) (c : ReportsCycles types (map outline (declarations items)) start list) (kind : Rule) (span : Span) → Violates text types items kind span → IsIn (violation kind span) (whole text types items (marked_from c.marks 0 (map outline (declarations items))))
+whole_complete text types items start list c rule.ArgumentCount span v = in_references text types items (marked_from c.marks 0 (map outline (declarations items))) (violation rule.ArgumentCount span) (wrong_count_listed types items span v)
+whole_complete text types items start list c rule.UnboundVariable span v = in_references text types items (marked_from c.marks 0 (map outline (declarations items))) (violation rule.UnboundVariable span) (unlisted_listed types items span v)
+whole_complete text types items start list c rule.DeclaredTwice span v = in_named text types items (marked_from c.marks 0 (map outline (declarations items))) (violation rule.DeclaredTwice span) (named_complete text (declarations items) span v)
+whole_complete text types items start list c rule.CyclicAbbreviation span v = in_marks text types items (marked_from c.marks 0 (map outline (declarations items))) (violation rule.CyclicAbbreviation span) (cyclic_complete types items c.marks span c.exact v)
+whole_complete text types items start list c _ span v = absurd v
+
+-- what the three parts add is all
+pub all_violations : (text : List ℕ) (types : List (ℕ × TyRef)) (items : List Item) (os : List Outline) (nothing first second list : List Refusal) → os ≡ map outline (declarations items) → nothing ≡ [] → first ≡ nothing ++ references types os items → second ≡ first ++ all_twice text os → ReportsCycles types os second list → IsAllOf text types items list
+all_violations text types items os nothing first second list eo en ef es c =
+    let os_is : ReportsCycles types (map outline (declarations items)) second list = subst (λ (z : List Outline). ReportsCycles types z second list) eo c in
+    let ef' : first ≡ references types (map outline (declarations items)) items = ef ∙ ap (λ z. z ++ references types os items) en ∙ ap (λ z. references types z items) eo in
+    let es' : second ≡ references types (map outline (declarations items)) items ++ named text (declarations items) = es ∙ ap (λ z. z ++ all_twice text os) ef' ∙ ap (λ z. references types (map outline (declarations items)) items ++ z) (ap (all_twice text) eo ∙ same_twice text (declarations items)) in
+    let is : list ≡ whole text types items (marked_from os_is.marks 0 (map outline (declarations items))) = os_is.added ∙ ap (λ z. z ++ marked_from os_is.marks 0 (map outline (declarations items))) es' in
+    record {
+      sound = λ r h. whole_sound text types items second list os_is r (subst (λ (z : List Refusal). IsIn r z) is h);
+      complete = λ r v. subst (λ (z : List Refusal). IsIn r z) (sym is) (whole_complete text types items second list os_is r.rule r.span v);
+    }
