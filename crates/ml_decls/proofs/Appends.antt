@@ -10,7 +10,7 @@ nothing_more [] = refl
 nothing_more (x ∷ xs) = ap (λ z. x ∷ z) (nothing_more xs)
 
 -- the items from a place on are the one there and those behind it
-from_place : {A : Type 0} → (list : List A) (i : ℕ) (item : A) → i < length list → item ≡ get_or list i item → drop i list ≡ item ∷ drop (i + 1) list
+pub from_place : {A : Type 0} → (list : List A) (i : ℕ) (item : A) → i < length list → item ≡ get_or list i item → drop i list ≡ item ∷ drop (i + 1) list
 from_place list i item h is = drop-cons list i item h ∙ ap (λ z. z ∷ drop (suc i) list) (sym is) ∙ ap (λ n. item ∷ drop n list) (sym (add-one i))
 
 pub all_step : {A B : Type 0} → (g : A → List B) (list : List A) (i : ℕ) (item : A) (now next total : List B) → i < length list → item ≡ get_or list i item → next ≡ now ++ g item → now ++ all (map g (drop i list)) ≡ total → next ++ all (map g (drop (i + 1) list)) ≡ total

@@ -20,6 +20,7 @@ transitive a b c d e f g h i (inr p) (inr q) = by_second p.1 q.1
   where
     firsts : a ≡ g
     firsts = let u : a ≡ d = p.0 in let v : d ≡ g = q.0 in omega arith
+
     by_second : (b < e) ⊎ ((b ≡ e) × (c < f)) → (e < h) ⊎ ((e ≡ h) × (f < i)) → (a < g) ⊎ ((a ≡ g) × ((b < h) ⊎ ((b ≡ h) × (c < i))))
     by_second (inl r) (inl s) = inr (firsts, inl (omega arith))
     by_second (inl r) (inr s) = let v : e ≡ h = s.0 in inr (firsts, inl (omega arith))
@@ -43,6 +44,7 @@ least_one list more r e m = subst (λ (z : List Refusal). IsLeast z (Some r)) (s
   where
     is : more ≡ r ∷ []
     is = cc
+
     only : (other : Refusal) → IsIn other (r ∷ []) → ComesBefore other r → ⊥
     only other (inl q) b = not_before_itself r (subst (λ (z : Refusal). ComesBefore z r) q b)
     only other (inr q) b = q

@@ -7,3 +7,5 @@ pub mod Rings
 pub mod Whole
 pub mod Trees
 pub mod Finds
+pub mod Seen
+pub mod Infos

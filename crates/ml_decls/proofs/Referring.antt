@@ -124,24 +124,27 @@ in_outlines : (types : List (ℕ × TyRef)) (items : List Item) (d : Decl) (m : 
 in_outlines types items d m refusal declared stands h =
     let counts : List ℕ = outline_counts (map outline (declarations items)) in
     in_left refusal (all (map (outline_verdicts types counts) (map outline (declarations items)))) (verdicts types counts None (annotations items))
-      (in_all_map (outline_verdicts types counts) (outline d) refusal (map outline (declarations items)) (in_map outline d (declarations items) declared)
-        (in_all_map (verdict types counts (Some (length d.vars))) m refusal (body_mentions d.body) stands h))
+    (in_all_map (outline_verdicts types counts) (outline d) refusal (map outline (declarations items)) (in_map outline d (declarations items) declared)
+    (in_all_map (verdict types counts (Some (length d.vars))) m refusal (body_mentions d.body) stands h))
 
 in_annotations : (types : List (ℕ × TyRef)) (items : List Item) (m : Mention) (refusal : Refusal) → IsIn m (annotations items) → IsIn refusal (verdict types (outline_counts (map outline (declarations items))) None m) → IsIn refusal (references types (map outline (declarations items)) items)
 in_annotations types items m refusal stands h =
     let counts : List ℕ = outline_counts (map outline (declarations items)) in
     in_right refusal (all (map (outline_verdicts types counts) (map outline (declarations items)))) (verdicts types counts None (annotations items))
-      (in_all_map (verdict types counts None) m refusal (annotations items) stands h)
+    (in_all_map (verdict types counts None) m refusal (annotations items) stands h)
 
 pub wrong_count_listed : (types : List (ℕ × TyRef)) (items : List Item) (place : Span) → IsWrongCount types items place → IsIn (violation ArgumentCount place) (references types (map outline (declarations items)) items)
 wrong_count_listed types items place w = by_side (in_either (Named w.id place w.arguments) (all (map (λ (d : Decl). body_mentions d.body) (declarations items))) (annotations items) w.stands)
   where
     declared : slice_get (outline_counts (map outline (declarations items))) w.declaration ≡ Some w.variables
     declared = subst (λ (z : List ℕ). slice_get z w.declaration ≡ Some w.variables) (sym (same_counts (declarations items))) w.declared
+
     wrong : miscounts (outline_counts (map outline (declarations items))) (find types w.id) w.arguments ≡ true
     wrong = miscounts_is (outline_counts (map outline (declarations items))) (find types w.id) w.arguments w.declaration w.variables w.names declared w.differ
+
     here : IsIn (violation ArgumentCount place) (where_wrong (miscounts (outline_counts (map outline (declarations items))) (find types w.id) w.arguments) ArgumentCount place)
     here = in_where (miscounts (outline_counts (map outline (declarations items))) (find types w.id) w.arguments) ArgumentCount place wrong
+
     by_side : IsIn (Named w.id place w.arguments) (all (map (λ (d : Decl). body_mentions d.body) (declarations items))) ⊎ IsIn (Named w.id place w.arguments) (annotations items) → IsIn (violation ArgumentCount place) (references types (map outline (declarations items)) items)
     by_side (inl u) = let f : From (λ (d : Decl). body_mentions d.body) (declarations items) (Named w.id place w.arguments) = from_all_map (λ (d : Decl). body_mentions d.body) (Named w.id place w.arguments) (declarations items) u in in_outlines types items f.item (Named w.id place w.arguments) (violation ArgumentCount place) f.stands f.gives here
     by_side (inr u) = in_annotations types items (Named w.id place w.arguments) (violation ArgumentCount place) u here

@@ -39,6 +39,7 @@ behind text seen first names name l = record { place = suc l.place; stands = l.s
     by_test : (bytes_eq (spelling text name) (spelling text first) ≡ true) ⊎ (is_seen seen (spelling text name) ≡ true) → Before text seen (first ∷ names) (suc l.place) name
     by_test (inl e) = stands 0 first (omega arith) refl (sym ((bytes_eq-Decides (spelling text name) (spelling text first)).0 e))
     by_test (inr e) = was_seen e
+
     by_before : Before text (spelling text first ∷ seen) names l.place name → Before text seen (first ∷ names) (suc l.place) name
     by_before (was_seen e) = by_test (or_cases (bytes_eq (spelling text name) (spelling text first)) (is_seen seen (spelling text name)) e)
     by_before (stands k other h e same) = stands (suc k) other (omega arith) e same
@@ -49,6 +50,7 @@ twice_sound text seen (first ∷ names) r h = by_side (in_either r (where_wrong 
   where
     here : (is_seen seen (spelling text first) ≡ true) × (r ≡ violation DeclaredTwice first) → (r ≡ violation DeclaredTwice r.span) × Later text seen (first ∷ names) r.span
     here u = let s : r.span ≡ first = ap (λ (z : Refusal). z.span) u.1 in (u.1 ∙ ap (violation DeclaredTwice) (sym s), record { place = 0; stands = ap Some (sym s); before = was_seen (rw s u.0) })
+
     by_side : IsIn r (where_wrong (is_seen seen (spelling text first)) DeclaredTwice first) ⊎ IsIn r (twice text (spelling text first ∷ seen) names) → (r ≡ violation DeclaredTwice r.span) × Later text seen (first ∷ names) r.span
     by_side (inl u) = here (from_where (is_seen seen (spelling text first)) DeclaredTwice first r u)
     by_side (inr u) = let l : (r ≡ violation DeclaredTwice r.span) × Later text (spelling text first ∷ seen) names r.span = twice_sound text (spelling text first ∷ seen) names r u in (l.0, behind text seen first names r.span l.1)
@@ -59,6 +61,7 @@ twice_complete text seen (first ∷ names) zero name e b = by_before b
   where
     same : first ≡ name
     same = cc
+
     by_before : Before text seen (first ∷ names) 0 name → IsIn (violation DeclaredTwice name) (twice text seen (first ∷ names))
     by_before (was_seen t) = in_left (violation DeclaredTwice name) (where_wrong (is_seen seen (spelling text first)) DeclaredTwice first) (twice text (spelling text first ∷ seen) names) (rw same (in_where (is_seen seen (spelling text name)) DeclaredTwice name t))
     by_before (stands k other h p q) = absurd (omega arith)
@@ -75,6 +78,7 @@ repeated_sound text names r h = (u.0, by_before u.1.before)
   where
     u : (r ≡ violation DeclaredTwice r.span) × Later text [] names r.span
     u = twice_sound text [] names r h
+
     by_before : Before text [] names u.1.place r.span → IsRepeated text names r.span
     by_before (was_seen t) = absurd cc
     by_before (stands k other less e same) = record { earlier = k; later = u.1.place; other = other; order = less; first = e; second = u.1.stands; same = same }

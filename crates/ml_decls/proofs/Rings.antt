@@ -56,6 +56,7 @@ mentioned types ms b h = by_item f.item f.stands f.gives
   where
     f : From (target types) ms b
     f = from_all_map (target types) b ms h
+
     by_item : (m : Mention) → IsIn m ms → IsIn b (target types m) → Mentioned types ms b
     by_item (Named id whole n) s g = record { id = id; whole = whole; arguments = n; stands = s; names = written_is (find types id) b g }
     by_item (Variable id place) s g = absurd g
@@ -136,6 +137,7 @@ marked_sound marks first (o ∷ os) refusal h = by_side (in_either refusal (wher
         let s : refusal.span ≡ o.name = ap (λ (z : Refusal). z.span) u.1 in
         let n : first + 0 ≡ first = omega arith in
         (u.1 ∙ ap (violation CyclicAbbreviation) (sym s), record { place = 0; item = o; stands = refl; is = sym s; marked = ap (λ z. slice_index_or marks z false) n ∙ u.0 })
+
     by_side : IsIn refusal (where_wrong (slice_index_or marks first false) CyclicAbbreviation o.name) ⊎ IsIn refusal (marked_from marks (suc first) os) → (refusal ≡ violation CyclicAbbreviation refusal.span) × Marked marks first (o ∷ os) refusal.span
     by_side (inl u) = here (from_where (slice_index_or marks first false) CyclicAbbreviation o.name refusal u)
     by_side (inr u) =
@@ -149,11 +151,11 @@ marked_complete marks first (x ∷ os) zero o e m =
     let same : x ≡ o = cc in
     let n : first ≡ first + 0 = omega arith in
     in_left (violation CyclicAbbreviation o.name) (where_wrong (slice_index_or marks first false) CyclicAbbreviation x.name) (marked_from marks (suc first) os)
-      (subst (λ (z : Outline). IsIn (violation CyclicAbbreviation o.name) (where_wrong (slice_index_or marks first false) CyclicAbbreviation z.name)) (sym same) (in_where (slice_index_or marks first false) CyclicAbbreviation o.name (ap (λ z. slice_index_or marks z false) n ∙ m)))
+    (subst (λ (z : Outline). IsIn (violation CyclicAbbreviation o.name) (where_wrong (slice_index_or marks first false) CyclicAbbreviation z.name)) (sym same) (in_where (slice_index_or marks first false) CyclicAbbreviation o.name (ap (λ z. slice_index_or marks z false) n ∙ m)))
 marked_complete marks first (x ∷ os) (suc place) o e m =
     let n : suc first + place ≡ first + suc place = omega arith in
     in_right (violation CyclicAbbreviation o.name) (where_wrong (slice_index_or marks first false) CyclicAbbreviation x.name) (marked_from marks (suc first) os)
-      (marked_complete marks (suc first) os place o e (ap (λ z. slice_index_or marks z false) n ∙ m))
+    (marked_complete marks (suc first) os place o e (ap (λ z. slice_index_or marks z false) n ∙ m))
 
 -- ---- the two together
 

@@ -110,6 +110,7 @@ each_step {A = A} {B = B} {C = C} R g list i item xs next x h is so_far here e =
     map_append : (ps qs : List C) → map g (ps ++ qs) ≡ map g ps ++ map g qs
     map_append [] qs = refl
     map_append (p ∷ ps) qs = ap (λ z. g p ∷ z) (map_append ps qs)
+
     taken : map g (take (i + 1) list) ≡ map g (take i list) ++ g item ∷ []
     taken = ap (λ n. map g (take n list)) (add-one i) ∙ ap (map g) (take-suc list i item h) ∙ map_append (take i list) (get_or list i item ∷ []) ∙ ap (λ z. map g (take i list) ++ g z ∷ []) (sym is)
 

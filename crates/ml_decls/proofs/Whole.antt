@@ -48,6 +48,7 @@ named_sound text ds r h = by_side (in_either r (twice text [] (type_names ds) ++
     by_first : IsIn r (twice text [] (type_names ds)) ⊎ IsIn r (twice text [] (constructor_names ds)) → (r ≡ violation rule.DeclaredTwice r.span) × IsDeclaredTwice text ds r.span
     by_first (inl u) = let s : (r ≡ violation rule.DeclaredTwice r.span) × IsRepeated text (type_names ds) r.span = repeated_sound text (type_names ds) r u in (s.0, inl s.1)
     by_first (inr u) = let s : (r ≡ violation rule.DeclaredTwice r.span) × IsRepeated text (constructor_names ds) r.span = repeated_sound text (constructor_names ds) r u in (s.0, inr (inl s.1))
+
     by_side : IsIn r (twice text [] (type_names ds) ++ twice text [] (constructor_names ds)) ⊎ IsIn r (twice text [] (field_names ds)) → (r ≡ violation rule.DeclaredTwice r.span) × IsDeclaredTwice text ds r.span
     by_side (inl u) = by_first (in_either r (twice text [] (type_names ds)) (twice text [] (constructor_names ds)) u)
     by_side (inr u) = let s : (r ≡ violation rule.DeclaredTwice r.span) × IsRepeated text (field_names ds) r.span = repeated_sound text (field_names ds) r u in (s.0, inr (inr s.1))
@@ -78,6 +79,7 @@ module _ (text : List ℕ) (types : List (ℕ × TyRef)) (items : List Item) (ma
       by_first : IsIn r (references types (map outline (declarations items)) items) ⊎ IsIn r (named text (declarations items)) → P
       by_first (inl u) = a u
       by_first (inr u) = b u
+
       by_side : IsIn r (references types (map outline (declarations items)) items ++ named text (declarations items)) ⊎ IsIn r marks → P
       by_side (inl u) = by_first (in_either r (references types (map outline (declarations items)) items) (named text (declarations items)) u)
       by_side (inr u) = c u
@@ -85,10 +87,10 @@ module _ (text : List ℕ) (types : List (ℕ × TyRef)) (items : List Item) (ma
 whole_sound : (text : List ℕ) (types : List (ℕ × TyRef)) (items : List Item) (start list : List Refusal) (c : ReportsCycles types (map outline (declarations items)) start list) (r : Refusal) → IsIn r (whole text types items (marked_from c.marks 0 (map outline (declarations items)))) → Offends text types items r
 whole_sound text types items start list c r h =
     in_cases text types items (marked_from c.marks 0 (map outline (declarations items))) r
-      (λ u. elim (references_sound types items r u) [ inl v ↦ offends_by text types items rule.ArgumentCount r v.0 v.1 | inr v ↦ offends_by text types items rule.UnboundVariable r v.0 v.1 ])
-      (λ u. let v : (r ≡ violation rule.DeclaredTwice r.span) × IsDeclaredTwice text (declarations items) r.span = named_sound text (declarations items) r u in offends_by text types items rule.DeclaredTwice r v.0 v.1)
-      (λ u. let v = cyclic_sound types items c.marks r c.exact u in offends_by text types items rule.CyclicAbbreviation r v.0 v.1)
-      h
+    (λ u. elim (references_sound types items r u) [ inl v ↦ offends_by text types items rule.ArgumentCount r v.0 v.1 | inr v ↦ offends_by text types items rule.UnboundVariable r v.0 v.1 ])
+    (λ u. let v : (r ≡ violation rule.DeclaredTwice r.span) × IsDeclaredTwice text (declarations items) r.span = named_sound text (declarations items) r u in offends_by text types items rule.DeclaredTwice r v.0 v.1)
+    (λ u. let v = cyclic_sound types items c.marks r c.exact u in offends_by text types items rule.CyclicAbbreviation r v.0 v.1)
+    h
 
 -- by the rule of a violation
 whole_complete : (text : List ℕ) (types : List (ℕ × TyRef)) (items : List Item) (start list : List Refusal) (c : ReportsCycles types (map outline (declarations items)) start list) (kind : Rule) (span : Span) → Violates text types items kind span → IsIn (violation kind span) (whole text types items (marked_from c.marks 0 (map outline (declarations items))))

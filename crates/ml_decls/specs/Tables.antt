@@ -100,3 +100,8 @@ pub record Declares (types : List (ℕ × TyRef)) (ds : List Decl) (infos : List
 pub record Grows (before after : List TyNode) : Type 0 where
   pub more : List TyNode
   pub is : after ≡ before ++ more
+
+-- declarations that say what these do were added to a list, while the table grew
+pub record Adds (types : List (ℕ × TyRef)) (start now : List TyNode) (begun infos : List DeclInfo) (ds : List Decl) : Type 0 where
+  pub grows : Grows start now
+  pub say : (before : List Said) → Each (Says start) begun before → Each (Says now) infos (before ++ map (said types) ds)

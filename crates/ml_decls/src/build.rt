@@ -1,8 +1,8 @@
 //! The declarations of a program at their types.
-ghost use Rattle.std.specs.Prelude.{◌≡◌, [], ◌++◌, List, map, Some, None, IfOk, OnOk};
+ghost use Rattle.std.specs.Prelude.{[], map, Some, None, IfOk, OnOk};
 ghost use Rattle.ml_decls.specs.Programs.{declarations};
-ghost use Rattle.ml_decls.specs.Said.{Said, written, said_arg, said_con, said_field, said, predefined};
-ghost use Rattle.ml_decls.specs.Tables.{Each, ArgSays, ConSays, FieldSays, Says, Grows, Declares};
+ghost use Rattle.ml_decls.specs.Said.{written, said_arg, said_con, said_field, said};
+ghost use Rattle.ml_decls.specs.Tables.{Each, ArgSays, ConSays, FieldSays, Says, Grows, Adds, Declares};
 
 use crate::outline::item_declarations;
 use crate::predefined::{empty, predefined};
@@ -136,8 +136,7 @@ fn push_infos(
     infos: &mut Items<DeclInfo>,
     made: &mut Making,
 ) -> Result<(), NoMemory>
-    ensures grows { OnOk result (Grows made.old.nodes made.new.nodes) }
-    ensures say { OnOk result ((before : List Said) → Each (Says made.old.nodes) infos.old before → Each (Says made.new.nodes) infos.new (before ++ map (said s.now.types) list.now)) }
+    ensures { OnOk result (Adds s.now.types made.old.nodes made.new.nodes infos.old infos.new list.now) }
 {
     for one in list {
         infos.push(decl_info(s, one, made)?)?;
@@ -152,7 +151,7 @@ fn push_items(
     infos: &mut Items<DeclInfo>,
     made: &mut Making,
 ) -> Result<(), NoMemory>
-    ensures { OnOk result ((before : List Said) → Each (Says made.old.nodes) infos.old before → Each (Says made.new.nodes) infos.new (before ++ map (said s.now.types) (declarations items.now))) }
+    ensures { OnOk result (Adds s.now.types made.old.nodes made.new.nodes infos.old infos.new (declarations items.now)) }
 {
     for item in items {
         push_infos(s, item_declarations(&item.kind), infos, made)?;

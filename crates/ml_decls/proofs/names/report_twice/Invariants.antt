@@ -1,0 +1,5 @@
+use Rattle.ml_decls.proofs.Seen.{IsSoFar}
+use Rattle.ml_decls.proofs.names.report_twice.Given as goal
+
+abbrev pub invariant-loop-name : goal.invariant-loop-name
+invariant-loop-name l = IsSoFar l.text (λ key. key.items) l.seen.keys l.names l.name-index l.offences l.initial.offences
