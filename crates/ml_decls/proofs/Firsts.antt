@@ -1,9 +1,12 @@
 -- The first of several violations.
-use Rattle.std.proofs.Common.{◌≡◌, ℕ, ◌<◌, ◌⊎◌, inl, inr, List, [], ◌∷◌, ◌++◌, Option, Some, None, refl, sym, ap, subst, arith}
+use Rattle.std.proofs.Common.{◌≡◌, ℕ, ◌<◌, ◌⊎◌, inl, inr, List, [], ◌∷◌, ◌++◌, Option, Some, None, refl, sym, ap, subst, arith, IfSome, IfNone}
 use Rattle.oxml_base.specs.declared.refusal.Refusal.{Refusal}
 use Rattle.oxml_base.specs.Rules.{rule_number}
 use Rattle.ml_decls.specs.Lists.{IsIn}
-use Rattle.ml_decls.specs.Offences.{ComesBefore}
+use Rattle.ml_tree.specs.declared.program.Item.{Item}
+use Rattle.ml_tree.specs.declared.reference.TyRef.{TyRef}
+use Rattle.ml_decls.specs.Offences.{ComesBefore, NoneOrFirst}
+use Rattle.ml_decls.specs.Verdicts.{IsAllOf}
 use Rattle.ml_decls.proofs.Members.{in_either, in_left, in_right}
 
 -- the first of those so far
@@ -69,3 +72,8 @@ least_more list more first r chosen l m (inr c) = subst (λ (z : Refusal). IsLea
         by_side (inl u) = l.1 other u b
         by_side (inr (inl e)) = c.1 (subst (λ (z : Refusal). ComesBefore z first) e b)
         by_side (inr (inr e)) = e
+
+-- what the first of all violations is
+pub none_or_first : (text : List ℕ) (types : List (ℕ × TyRef)) (items : List Item) (list : List Refusal) (o : Option Refusal) → IsAllOf text types items list → IfNone o (list ≡ []) → IfSome o (λ first. IsIn first list) → IfSome o (λ first. (other : Refusal) → IsIn other list → ComesBefore other first → ⊥) → NoneOrFirst text types items o
+none_or_first text types items list None a none s l = λ r h. subst (λ (z : List Refusal). IsIn r z) none (a.complete r h)
+none_or_first text types items list (Some first) a none s l = record { offends = a.sound first s; least = λ other h. l other (a.complete other h) }

@@ -11,10 +11,18 @@ use Rattle.ml_types.specs.declared.declared.DeclInfo.{DeclInfo}
 use Rattle.ml_types.specs.declared.declared.ConInfo.{ConInfo}
 use Rattle.ml_types.specs.declared.declared.FieldInfo.{FieldInfo}
 use Rattle.ml_types.specs.declared.declared.ArgInfo.{ArgInfo}
-use Rattle.ml_types.specs.Types.{Tree}
+use Rattle.ml_types.specs.Types.{Tree, Leaf}
+use Rattle.oxml_base.specs.declared.span.Span.{Span}
+use Rattle.ml_tree.specs.declared.types.TyExpr.{TyExpr}
+use Rattle.ml_tree.specs.declared.types.ConDecl.{ConDecl}
+use Rattle.ml_tree.specs.declared.types.FieldDecl.{FieldDecl}
+use Rattle.ml_tree.specs.declared.types.DeclBody.{DeclBody}
+use Rattle.ml_tree.specs.declared.types.DeclBody.TheVariants as b
+use Rattle.ml_tree.specs.declared.pattern.ConName.TheVariants as n
+use Rattle.ml_decls.specs.Predefined.{variant_info, bool_info, unit_info, list_info, option_info, all_infos}
 use Rattle.ml_decls.specs.Lists.{all}
 use Rattle.ml_decls.specs.Programs.{kind_declarations, declarations}
-use Rattle.ml_decls.specs.Said.{SaidArg, SaidCon, SaidField, Said, said}
+use Rattle.ml_decls.specs.Said.{SaidArg, SaidCon, SaidField, Said, said, said_con, said_field, written, nowhere, plain, con, variant, list_of, predefined}
 use Rattle.ml_decls.specs.Tables.{HasType, Each, ArgSays, ConSays, FieldSays, AliasSays, Says, Grows, Adds}
 use Rattle.ml_decls.proofs.Trees.{type_grows, each_weaker, each_append, grows_on}
 
@@ -96,3 +104,44 @@ declarations_more items i item h is =
     ∙ sym (all_append (map kinds (take i items)) (map kinds (item ∷ [])))
     ∙ ap all (sym (map_append kinds (take i items) (item ∷ [])))
     ∙ ap declarations (taken_more items i item h is)
+
+-- ---- one declaration
+
+module _ (types : List (ℕ × TyRef)) where
+  pub said_variant : (d : Decl) (cs : List ConDecl) → d.body ≡ b.Variant cs → said types d ≡ record { name = d.name; vars = length d.vars; cons = map (said_con types) cs; fields = []; alias = None }
+  said_variant d cs e = ap (λ (z : DeclBody). said types record { name = d.name; vars = d.vars; body = z }) e
+
+  pub said_record : (d : Decl) (fs : List FieldDecl) → d.body ≡ b.Fields fs → said types d ≡ record { name = d.name; vars = length d.vars; cons = []; fields = map (said_field types) fs; alias = None }
+  said_record d fs e = ap (λ (z : DeclBody). said types record { name = d.name; vars = d.vars; body = z }) e
+
+  pub said_alias : (d : Decl) (ty : TyExpr) → d.body ≡ b.Alias ty → said types d ≡ record { name = d.name; vars = length d.vars; cons = []; fields = []; alias = Some (written types ty) }
+  said_alias d ty e = ap (λ (z : DeclBody). said types record { name = d.name; vars = d.vars; body = z }) e
+
+  pub says_variant : (nodes : List TyNode) (info : DeclInfo) (d : Decl) (vars : ℕ) (cs list : List ConDecl) → d.body ≡ b.Variant cs → list ≡ cs → vars ≡ length d.vars → Says nodes info record { name = d.name; vars = vars; cons = map (said_con types) list; fields = []; alias = None } → Says nodes info (said types d)
+  says_variant nodes info d vars cs list e l v h = rw (said_variant d cs e, ← l, ← v) h
+
+  pub says_record : (nodes : List TyNode) (info : DeclInfo) (d : Decl) (vars : ℕ) (fs list : List FieldDecl) → d.body ≡ b.Fields fs → list ≡ fs → vars ≡ length d.vars → Says nodes info record { name = d.name; vars = vars; cons = []; fields = map (said_field types) list; alias = None } → Says nodes info (said types d)
+  says_record nodes info d vars fs list e l v h = rw (said_record d fs e, ← l, ← v) h
+
+  pub says_alias : (nodes : List TyNode) (info : DeclInfo) (d : Decl) (vars : ℕ) (ty : TyExpr) → d.body ≡ b.Alias ty → vars ≡ length d.vars → Says nodes info record { name = d.name; vars = vars; cons = []; fields = []; alias = Some (written types ty) } → Says nodes info (said types d)
+  says_alias nodes info d vars ty e v h = rw (said_alias d ty e, ← v) h
+
+-- the parts that a declaration has
+pub says_parts : (nodes : List TyNode) (name : Span) (vars : ℕ) (cons : List ConInfo) (fields : List FieldInfo) (alias : Option TyId) (said_cons : List SaidCon) (said_fields : List SaidField) (said_type : Option Tree) → Each (ConSays nodes) cons said_cons → Each (FieldSays nodes) fields said_fields → AliasSays nodes alias said_type → Says nodes record { name = name; vars = vars; cons = cons; fields = fields; alias = alias } record { name = name; vars = vars; cons = said_cons; fields = said_fields; alias = said_type }
+says_parts nodes name vars cons fields alias said_cons said_fields said_type c f a = record { name = refl; vars = refl; cons = c; fields = f; alias = a }
+
+-- ---- what is predefined
+
+pub predefined_say : (nodes : List TyNode) (element list : TyId) → HasType nodes element (Leaf 0) → HasType nodes list (list_of (Leaf 0)) → Each (Says nodes) (all_infos element list) predefined
+predefined_say nodes element list e l = (none, (none, (none, (truth, (unit, (lists, (options, tt)))))))
+  where
+    none : Says nodes (variant_info 0 []) (variant 0 [])
+    none = record { name = refl; vars = refl; cons = tt; fields = tt; alias = tt }
+    truth : Says nodes bool_info (variant 0 (con n.False [] ∷ con n.True [] ∷ []))
+    truth = record { name = refl; vars = refl; cons = (record { name = refl; args = tt }, (record { name = refl; args = tt }, tt)); fields = tt; alias = tt }
+    unit : Says nodes unit_info (variant 0 (con n.Unit [] ∷ []))
+    unit = record { name = refl; vars = refl; cons = (record { name = refl; args = tt }, tt); fields = tt; alias = tt }
+    lists : Says nodes (list_info element list) (variant 1 (con n.Nil [] ∷ con (n.Named nowhere) (plain (Leaf 0) ∷ plain (list_of (Leaf 0)) ∷ []) ∷ []))
+    lists = record { name = refl; vars = refl; cons = (record { name = refl; args = tt }, (record { name = refl; args = (record { words = refl; ty = e }, (record { words = refl; ty = l }, tt)) }, tt)); fields = tt; alias = tt }
+    options : Says nodes (option_info element) (variant 1 (con (n.Named nowhere) [] ∷ con (n.Named nowhere) (plain (Leaf 0) ∷ []) ∷ []))
+    options = record { name = refl; vars = refl; cons = (record { name = refl; args = tt }, (record { name = refl; args = (record { words = refl; ty = e }, tt) }, tt)); fields = tt; alias = tt }

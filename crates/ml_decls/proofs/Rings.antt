@@ -20,10 +20,10 @@ use Rattle.ml_decls.proofs.Members.{in_left, in_right, in_either, in_all_map, Fr
 
 -- ---- edges
 
-below_seven : (n b : ℕ) → IsIn b (cond (nat_le 7 n) (n - 7 ∷ []) []) → n ≡ b + 7
+below_seven : (n b : ℕ) → IsIn b (cond (nat_le 7 n) ((n - 7) ∷ []) []) → n ≡ b + 7
 below_seven n b h = by_test (nat_le 7 n) refl h
   where
-    by_test : (t : Bool) → nat_le 7 n ≡ t → IsIn b (cond t (n - 7 ∷ []) []) → n ≡ b + 7
+    by_test : (t : Bool) → nat_le 7 n ≡ t → IsIn b (cond t ((n - 7) ∷ []) []) → n ≡ b + 7
     by_test true e (inl q) = let o : 7 ≤ n = grind (arith, nat_tests) in omega arith
     by_test true e (inr q) = absurd q
     by_test false e q = absurd q
@@ -33,10 +33,10 @@ written_is None b h = absurd h
 written_is (Some (r.Var n)) b h = absurd h
 written_is (Some (r.Decl n)) b h = ap (λ z. Some (r.Decl z)) (below_seven n b h)
 
-seven_up : (b : ℕ) → IsIn b (cond (nat_le 7 (b + 7)) (b + 7 - 7 ∷ []) [])
+seven_up : (b : ℕ) → IsIn b (cond (nat_le 7 (b + 7)) ((b + 7 - 7) ∷ []) [])
 seven_up b = by_test (nat_le 7 (b + 7)) refl
   where
-    by_test : (t : Bool) → nat_le 7 (b + 7) ≡ t → IsIn b (cond t (b + 7 - 7 ∷ []) [])
+    by_test : (t : Bool) → nat_le 7 (b + 7) ≡ t → IsIn b (cond t ((b + 7 - 7) ∷ []) [])
     by_test true e = inl (omega arith)
     by_test false e = let h : ⊥ = grind (arith, nat_tests) in absurd h
 

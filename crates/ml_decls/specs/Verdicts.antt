@@ -48,7 +48,7 @@ module _ (types : List (ℕ × TyRef)) (counts : List ℕ) where
 
 -- the declaration that a name names, counted from the first written one
 abbrev pub written_number : Option TyRef → List ℕ
-written_number (Some (r.Decl number)) = cond (nat_le 7 number) (number - 7 ∷ []) []
+written_number (Some (r.Decl number)) = cond (nat_le 7 number) ((number - 7) ∷ []) []
 written_number _ = []
 
 abbrev pub target : List (ℕ × TyRef) → Mention → List ℕ

@@ -5,7 +5,7 @@ ghost use Rattle.ml_decls.specs.Said.{written, said_arg, said_con, said_field, s
 ghost use Rattle.ml_decls.specs.Tables.{Each, ArgSays, ConSays, FieldSays, Says, Grows, Adds, Declares};
 
 use crate::outline::item_declarations;
-use crate::predefined::{empty, predefined};
+use crate::predefined::predefined;
 use crate::table::{Making, count, push_arg, push_type};
 use ml_tree::{Arg, ConDecl, ConName, Decl, DeclBody, FieldDecl, Item, Scoped, TyExpr};
 use ml_types::{ArgInfo, ConInfo, DeclInfo, Decls, FieldInfo, TyTable};
@@ -27,9 +27,10 @@ fn con_info(s: &Scoped, one: &ConDecl, made: &mut Making) -> Result<ConInfo, NoM
     ensures grows { OnOk result (Grows made.old.nodes made.new.nodes) }
     ensures says { IfOk result (λ info. ConSays made.new.nodes info (said_con s.now.types one.now)) }
 {
+    let args = arg_infos(s, one.args.as_slice(), made)?;
     Ok(ConInfo {
         name: ConName::Named(one.name),
-        args: arg_infos(s, one.args.as_slice(), made)?,
+        args,
     })
 }
 
@@ -48,9 +49,10 @@ fn field_info(s: &Scoped, one: &FieldDecl, made: &mut Making) -> Result<FieldInf
     ensures grows { OnOk result (Grows made.old.nodes made.new.nodes) }
     ensures says { IfOk result (λ info. FieldSays made.new.nodes info (said_field s.now.types one.now)) }
 {
+    let arg = push_arg(s, &one.arg, made)?;
     Ok(FieldInfo {
         name: one.name,
-        arg: push_arg(s, &one.arg, made)?,
+        arg,
     })
 }
 
@@ -80,9 +82,14 @@ fn variant_info(
     ensures grows { OnOk result (Grows made.old.nodes made.new.nodes) }
     ensures says { IfOk result (λ info. Says made.new.nodes info record { name = name; vars = vars; cons = map (said_con s.now.types) list.now; fields = []; alias = None }) }
 {
-    let mut info = empty(made.alloc(), name, vars);
-    info.cons = con_infos(s, list, made)?;
-    Ok(info)
+    let cons = con_infos(s, list, made)?;
+    Ok(DeclInfo {
+        name,
+        vars,
+        cons,
+        fields: Items::new(made.alloc()),
+        alias: None,
+    })
 }
 
 /// A record of so many variables.
@@ -96,9 +103,14 @@ fn record_info(
     ensures grows { OnOk result (Grows made.old.nodes made.new.nodes) }
     ensures says { IfOk result (λ info. Says made.new.nodes info record { name = name; vars = vars; cons = []; fields = map (said_field s.now.types) list.now; alias = None }) }
 {
-    let mut info = empty(made.alloc(), name, vars);
-    info.fields = field_infos(s, list, made)?;
-    Ok(info)
+    let fields = field_infos(s, list, made)?;
+    Ok(DeclInfo {
+        name,
+        vars,
+        cons: Items::new(made.alloc()),
+        fields,
+        alias: None,
+    })
 }
 
 /// An abbreviation of so many variables. The names of other abbreviations stay in its type.
@@ -112,9 +124,14 @@ fn alias_info(
     ensures grows { OnOk result (Grows made.old.nodes made.new.nodes) }
     ensures says { IfOk result (λ info. Says made.new.nodes info record { name = name; vars = vars; cons = []; fields = []; alias = Some (written s.now.types ty.now) }) }
 {
-    let mut info = empty(made.alloc(), name, vars);
-    info.alias = Some(push_type(s, ty, made)?);
-    Ok(info)
+    let alias = push_type(s, ty, made)?;
+    Ok(DeclInfo {
+        name,
+        vars,
+        cons: Items::new(made.alloc()),
+        fields: Items::new(made.alloc()),
+        alias: Some(alias),
+    })
 }
 
 fn decl_info(s: &Scoped, one: &Decl, made: &mut Making) -> Result<DeclInfo, NoMemory>
@@ -123,9 +140,18 @@ fn decl_info(s: &Scoped, one: &Decl, made: &mut Making) -> Result<DeclInfo, NoMe
 {
     let vars = count(one.vars.len())?;
     match &one.body {
-        DeclBody::Variant(list) => variant_info(s, one.name, vars, list.as_slice(), made),
-        DeclBody::Fields(list) => record_info(s, one.name, vars, list.as_slice(), made),
-        DeclBody::Alias(ty) => alias_info(s, one.name, vars, ty, made),
+        DeclBody::Variant(list) => {
+            let info = variant_info(s, one.name, vars, list.as_slice(), made)?;
+            Ok(info)
+        }
+        DeclBody::Fields(list) => {
+            let info = record_info(s, one.name, vars, list.as_slice(), made)?;
+            Ok(info)
+        }
+        DeclBody::Alias(ty) => {
+            let info = alias_info(s, one.name, vars, ty, made)?;
+            Ok(info)
+        }
     }
 }
 

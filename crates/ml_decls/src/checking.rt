@@ -48,7 +48,8 @@ fn report_references(
     let counts = variable_counts(alloc, outlines)?;
     report_outlines(s, counts.as_slice(), outlines, offences)?;
     let annotations = annotations_of(alloc, items)?;
-    report_mentions(s, counts.as_slice(), None, annotations.as_slice(), offences)
+    report_mentions(s, counts.as_slice(), None, annotations.as_slice(), offences)?;
+    Ok(())
 }
 
 /// All violations of rules 30 to 33.

@@ -115,5 +115,6 @@ pub fn report_cycles(
 {
     let graph = graph(alloc, s, outlines)?;
     let marks = on_cycles(alloc, graph.as_slice())?;
-    report_marked(marks.as_slice(), outlines, offences)
+    report_marked(marks.as_slice(), outlines, offences)?;
+    Ok(())
 }

@@ -127,5 +127,6 @@ pub fn report_names(
     let constructors = constructor_names(alloc, outlines)?;
     report_twice(alloc, text, constructors.as_slice(), offences)?;
     let fields = field_names(alloc, outlines)?;
-    report_twice(alloc, text, fields.as_slice(), offences)
+    report_twice(alloc, text, fields.as_slice(), offences)?;
+    Ok(())
 }

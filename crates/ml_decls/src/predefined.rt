@@ -1,5 +1,5 @@
 //! The predefined declarations.
-ghost use Rattle.std.specs.Prelude.{◌≡◌, ◌<◌, [], ◌∷◌, ◌++◌, length, map, None, IfOk, OnOk};
+ghost use Rattle.std.specs.Prelude.{◌≡◌, ◌<◌, [], ◌∷◌, ◌++◌, length, IfOk, OnOk};
 ghost use Rattle.ml_types.specs.declared.node.TyNode.TheVariants.{Con};
 ghost use Rattle.ml_decls.specs.Said.{predefined};
 ghost use Rattle.ml_decls.specs.Tables.{Says, Each};
@@ -20,17 +20,11 @@ const NO_WORDS: Words = Words {
     aff: None,
 };
 
-/// A declaration without constructors, fields and abbreviated type.
-pub fn empty(alloc: Global, name: Span, vars: u32) -> DeclInfo
-    ensures { result ≡ record { name = name; vars = vars; cons = []; fields = []; alias = None } }
+/// A type without constructors.
+fn empty(alloc: Global) -> DeclInfo
+    ensures { result ≡ variant_info 0 [] }
 {
-    DeclInfo {
-        name,
-        vars,
-        cons: Items::new(alloc),
-        fields: Items::new(alloc),
-        alias: None,
-    }
+    variant(alloc, 0, Items::new(alloc))
 }
 
 /// A constructor of fields of these types.
@@ -116,9 +110,9 @@ fn infos(alloc: Global, element: TyId, list: TyId) -> Result<Items<DeclInfo>, No
     ensures { IfOk result (λ infos. infos ≡ all_infos element list) }
 {
     let mut infos = Items::new(alloc);
-    infos.push(empty(alloc, NOWHERE, 0))?;
-    infos.push(empty(alloc, NOWHERE, 0))?;
-    infos.push(empty(alloc, NOWHERE, 0))?;
+    infos.push(empty(alloc))?;
+    infos.push(empty(alloc))?;
+    infos.push(empty(alloc))?;
     infos.push(truth(alloc)?)?;
     infos.push(unit(alloc)?)?;
     infos.push(lists(alloc, element, list)?)?;
@@ -144,5 +138,6 @@ pub fn predefined(made: &mut Making) -> Result<Items<DeclInfo>, NoMemory>
 {
     let element = made.push(TyNode::Var(0))?;
     let list = push_list(element, made)?;
-    infos(made.alloc(), element, list)
+    let infos = infos(made.alloc(), element, list)?;
+    Ok(infos)
 }

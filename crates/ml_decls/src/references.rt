@@ -2,7 +2,7 @@
 //! variables are listed.
 ghost use Rattle.std.specs.Prelude.{◌≡◌, ◌++◌, map, slice_get, IfOk, OnOk};
 ghost use Rattle.ml_decls.specs.Lists.{all, find};
-ghost use Rattle.ml_decls.specs.Verdicts.{outline_counts, miscounts, is_unlisted, verdict, verdicts, outline_verdicts};
+ghost use Rattle.ml_decls.specs.Verdicts.{outline_counts, differs, miscounts, is_unlisted, verdict, verdicts, outline_verdicts};
 
 use crate::mentions::Mention;
 use crate::offences::offence_where;

@@ -1,6 +1,6 @@
 //! Written types as nodes of a table.
 ghost use Rattle.std.specs.Prelude.{◌≡◌, ◌<◌, ℕ, List, [], ◌∷◌, ◌++◌, length, map, slice_get, Some, IfOk, OnOk};
-ghost use Rattle.ml_types.specs.Types.{parts_of, Tree, Node, Cons, Nil, TupleHead, ArrowHead};
+ghost use Rattle.ml_types.specs.Types.{parts_of, Tree, Leaf, Node, Cons, Nil, ConHead, TupleHead, ArrowHead};
 ghost use Rattle.ml_types.specs.declared.node.TyId.{TyId};
 ghost use Rattle.ml_types.specs.declared.node.TyNode.TheVariants.{Var, Con, Tuple, Arrow};
 ghost use Rattle.ml_decls.specs.Lists.{find};
@@ -79,15 +79,44 @@ impl Making {
     }
 }
 
+/// The declaration of this number at arguments.
+fn push_con(number: u32, args: Items<TyId>, made: &mut Making) -> Result<TyId, NoMemory>
+    requires { (k : ℕ) (p : TyId) → slice_get args k ≡ Some p → p.0 < length made.old.nodes }
+    ensures grows { OnOk result (Grows made.old.nodes made.new.nodes) }
+    ensures ty { IfOk result (λ id. (ts : List Tree) → Each (HasType made.old.nodes) args ts → HasType made.new.nodes id (Node (ConHead number (length ts)) (listed ts))) }
+{
+    let id = made.push(TyNode::Con(number, args))?;
+    Ok(id)
+}
+
+/// The variable of this number.
+fn push_var(number: u32, made: &mut Making) -> Result<TyId, NoMemory>
+    ensures grows { OnOk result (Grows made.old.nodes made.new.nodes) }
+    ensures ty { IfOk result (λ id. HasType made.new.nodes id (Leaf number)) }
+{
+    let id = made.push(TyNode::Var(number))?;
+    Ok(id)
+}
+
 /// What a type expression names, at arguments. Each that is a name or a variable has a reference.
-fn push_named(target: Option<TyRef>, args: Items<TyId>, made: &mut Making) -> Result<TyId, NoMemory>
+fn push_named(
+    target: Option<TyRef>,
+    args: Items<TyId>,
+    made: &mut Making,
+) -> Result<TyId, NoMemory>
     requires { (k : ℕ) (p : TyId) → slice_get args k ≡ Some p → p.0 < length made.old.nodes }
     ensures grows { OnOk result (Grows made.old.nodes made.new.nodes) }
     ensures ty { IfOk result (λ id. (ts : List Tree) → Each (HasType made.old.nodes) args ts → HasType made.new.nodes id (type_named ts target)) }
 {
     match target {
-        Some(TyRef::Decl(number)) => made.push(TyNode::Con(number, args)),
-        Some(TyRef::Var(number)) => made.push(TyNode::Var(number)),
+        Some(TyRef::Decl(number)) => {
+            let id = push_con(number, args, made)?;
+            Ok(id)
+        }
+        Some(TyRef::Var(number)) => {
+            let id = push_var(number, made)?;
+            Ok(id)
+        }
         None => Err(NoMemory),
     }
 }
@@ -98,7 +127,8 @@ fn push_tuple(parts: Items<TyId>, made: &mut Making) -> Result<TyId, NoMemory>
     ensures grows { OnOk result (Grows made.old.nodes made.new.nodes) }
     ensures ty { IfOk result (λ id. (ts : List Tree) → Each (HasType made.old.nodes) parts ts → HasType made.new.nodes id (Node (TupleHead (length ts)) (listed ts))) }
 {
-    made.push(TyNode::Tuple(parts))
+    let id = made.push(TyNode::Tuple(parts))?;
+    Ok(id)
 }
 
 /// A type expression as a node. Its parts, from left to right, stand before it.
@@ -129,7 +159,8 @@ fn push_variable(target: Option<TyRef>, made: &mut Making) -> Result<TyId, NoMem
     ensures ty { IfOk result (λ id. HasType made.new.nodes id (type_named [] target)) }
 {
     let none = Items::new(made.alloc());
-    push_named(target, none, made)
+    let id = push_named(target, none, made)?;
+    Ok(id)
 }
 
 /// A name behind arguments.
@@ -139,7 +170,8 @@ fn push_applied(s: &Scoped, id: u32, args: &[TyExpr], made: &mut Making) -> Resu
     ensures ty { IfOk result (λ ty. HasType made.new.nodes ty (type_named (map (written s.now.types) args.now) (find s.now.types id))) }
 {
     let args = push_types(s, args, made)?;
-    push_named(target(s, id), args, made)
+    let ty = push_named(target(s, id), args, made)?;
+    Ok(ty)
 }
 
 #[cycle(types)]
@@ -148,7 +180,8 @@ fn push_product(s: &Scoped, parts: &[TyExpr], made: &mut Making) -> Result<TyId,
     ensures ty { IfOk result (λ ty. HasType made.new.nodes ty (Node (TupleHead (length parts.now)) (listed (map (written s.now.types) parts.now)))) }
 {
     let parts = push_types(s, parts, made)?;
-    push_tuple(parts, made)
+    let ty = push_tuple(parts, made)?;
+    Ok(ty)
 }
 
 #[cycle(types)]
@@ -158,7 +191,8 @@ fn push_function(s: &Scoped, from: &Arg, to: &Arg, made: &mut Making) -> Result<
 {
     let from = push_arg_type(s, from, made)?;
     let to = push_arg_type(s, to, made)?;
-    made.push_arrow(from, to)
+    let ty = made.push_arrow(from, to)?;
+    Ok(ty)
 }
 
 #[cycle(types)]
@@ -186,8 +220,9 @@ pub fn push_arg(s: &Scoped, arg: &Arg, made: &mut Making) -> Result<ArgInfo, NoM
     ensures grows { OnOk result (Grows made.old.nodes made.new.nodes) }
     ensures says { IfOk result (λ info. ArgSays made.new.nodes info (said_arg s.now.types arg.now)) }
 {
+    let ty = push_arg_type(s, arg, made)?;
     Ok(ArgInfo {
         words: arg.words,
-        ty: push_arg_type(s, arg, made)?,
+        ty,
     })
 }

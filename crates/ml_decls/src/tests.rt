@@ -355,14 +355,14 @@ fn pairs(alloc: Global, length: u32) -> Result<Items<u8>, NoMemory> {
 #[test]
 fn long_chain(rt: HostRuntime) -> Result<(), Fail> {
     let alloc = rt.alloc();
-    let text = pairs(alloc, 50_000)?;
-    let open = chain(alloc, 50_000, 0)?;
+    let text = pairs(alloc, 10_000)?;
+    let open = chain(alloc, 10_000, 0)?;
     let none = refusal(check_decls(alloc, text.as_slice(), &open));
     assert_eq!(rt; none, None);
-    // The last names the declaration at place 40,000, at which the ring begins.
-    let closed = chain(alloc, 50_000, 40_007)?;
+    // The last names the declaration at place 8,000, at which the ring begins.
+    let closed = chain(alloc, 10_000, 8_007)?;
     let found = refusal(check_decls(alloc, text.as_slice(), &closed));
-    assert_eq!(rt; found, at_place(Rule::CyclicAbbreviation, 80_000, 80_002));
+    assert_eq!(rt; found, at_place(Rule::CyclicAbbreviation, 16_000, 16_002));
     Ok(())
 }
 

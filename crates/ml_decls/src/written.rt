@@ -45,7 +45,8 @@ fn both_patterns(one: &Pat, other: &Pat, found: &mut Items<Mention>) -> Result<(
     ensures { OnOk result (found.new ≡ found.old ++ in_pattern one.now ++ in_pattern other.now) }
 {
     pattern(one, found)?;
-    pattern(other, found)
+    pattern(other, found)?;
+    Ok(())
 }
 
 #[cycle(patterns)]
@@ -53,7 +54,8 @@ fn typed_pattern(inner: &Pat, ty: &TyExpr, found: &mut Items<Mention>) -> Result
     ensures { OnOk result (found.new ≡ found.old ++ in_pattern inner.now ++ mentions ty.now) }
 {
     pattern(inner, found)?;
-    push_mentions(ty, found)
+    push_mentions(ty, found)?;
+    Ok(())
 }
 
 #[cycle(patterns)]
@@ -165,7 +167,8 @@ fn both(one: &Expr, other: &Expr, found: &mut Items<Mention>) -> Result<(), NoMe
     ensures { OnOk result (found.new ≡ found.old ++ in_expr one.now ++ in_expr other.now) }
 {
     expression(one, found)?;
-    expression(other, found)
+    expression(other, found)?;
+    Ok(())
 }
 
 #[cycle(expressions)]
@@ -173,7 +176,8 @@ fn application(function: &Expr, args: &[Expr], found: &mut Items<Mention>) -> Re
     ensures { OnOk result (found.new ≡ found.old ++ in_expr function.now ++ all (map in_expr args.now)) }
 {
     expression(function, found)?;
-    expressions(args, found)
+    expressions(args, found)?;
+    Ok(())
 }
 
 #[cycle(expressions)]
@@ -186,7 +190,8 @@ fn conditional(
     ensures { OnOk result (found.new ≡ found.old ++ in_expr condition.now ++ in_expr branch.now ++ perhaps (option_map in_expr other.now)) }
 {
     both(condition, branch, found)?;
-    operand(other, found)
+    operand(other, found)?;
+    Ok(())
 }
 
 #[cycle(expressions)]
@@ -194,7 +199,8 @@ fn local(binds: &[Bind], body: &Expr, found: &mut Items<Mention>) -> Result<(), 
     ensures { OnOk result (found.new ≡ found.old ++ all (map in_bind binds.now) ++ in_expr body.now) }
 {
     bindings(binds, found)?;
-    expression(body, found)
+    expression(body, found)?;
+    Ok(())
 }
 
 #[cycle(expressions)]
@@ -202,7 +208,8 @@ fn matching(scrutinee: &Expr, list: &[Arm], found: &mut Items<Mention>) -> Resul
     ensures { OnOk result (found.new ≡ found.old ++ in_expr scrutinee.now ++ all (map in_arm list.now)) }
 {
     expression(scrutinee, found)?;
-    arms(list, found)
+    arms(list, found)?;
+    Ok(())
 }
 
 #[cycle(expressions)]
@@ -210,7 +217,8 @@ fn function(list: &[Param], body: &Expr, found: &mut Items<Mention>) -> Result<(
     ensures { OnOk result (found.new ≡ found.old ++ all (map in_param list.now) ++ in_expr body.now) }
 {
     params(list, found)?;
-    expression(body, found)
+    expression(body, found)?;
+    Ok(())
 }
 
 #[cycle(expressions)]
@@ -218,7 +226,8 @@ fn typed(inner: &Expr, ty: &TyExpr, found: &mut Items<Mention>) -> Result<(), No
     ensures { OnOk result (found.new ≡ found.old ++ in_expr inner.now ++ mentions ty.now) }
 {
     expression(inner, found)?;
-    push_mentions(ty, found)
+    push_mentions(ty, found)?;
+    Ok(())
 }
 
 #[cycle(expressions)]
@@ -257,7 +266,8 @@ fn arm(arm: &Arm, found: &mut Items<Mention>) -> Result<(), NoMemory>
 {
     pattern(&arm.pat, found)?;
     guard(&arm.guard, found)?;
-    expression(&arm.body, found)
+    expression(&arm.body, found)?;
+    Ok(())
 }
 
 #[cycle(expressions)]
@@ -277,7 +287,8 @@ fn binding(bind: &Bind, found: &mut Items<Mention>) -> Result<(), NoMemory>
     pattern(&bind.pat, found)?;
     params(bind.params.as_slice(), found)?;
     result_type(&bind.result, found)?;
-    expression(&bind.body, found)
+    expression(&bind.body, found)?;
+    Ok(())
 }
 
 #[cycle(expressions)]
