@@ -20,8 +20,8 @@ use Rattle.ml_tree.specs.declared.types.DeclBody.{DeclBody}
 use Rattle.ml_tree.specs.declared.types.DeclBody.TheVariants as b
 use Rattle.ml_tree.specs.declared.pattern.ConName.TheVariants as n
 use Rattle.ml_decls.specs.Predefined.{variant_info, bool_info, unit_info, list_info, option_info, all_infos}
-use Rattle.ml_decls.specs.Lists.{all}
-use Rattle.ml_decls.specs.Programs.{kind_declarations, declarations}
+use Rattle.ml_mentions.specs.Lists.{all}
+use Rattle.ml_mentions.specs.Programs.{kind_declarations, declarations}
 use Rattle.ml_decls.specs.Said.{SaidArg, SaidCon, SaidField, Said, said, said_con, said_field, written, nowhere, plain, con, variant, list_of, predefined}
 use Rattle.ml_decls.specs.Tables.{HasType, Each, ArgSays, ConSays, FieldSays, AliasSays, Says, Grows, Adds}
 use Rattle.ml_decls.proofs.Trees.{type_grows, each_weaker, each_append, grows_on}
@@ -137,11 +137,15 @@ predefined_say nodes element list e l = (none, (none, (none, (truth, (unit, (lis
   where
     none : Says nodes (variant_info 0 []) (variant 0 [])
     none = record { name = refl; vars = refl; cons = tt; fields = tt; alias = tt }
+
     truth : Says nodes bool_info (variant 0 (con n.False [] ∷ con n.True [] ∷ []))
     truth = record { name = refl; vars = refl; cons = (record { name = refl; args = tt }, (record { name = refl; args = tt }, tt)); fields = tt; alias = tt }
+
     unit : Says nodes unit_info (variant 0 (con n.Unit [] ∷ []))
     unit = record { name = refl; vars = refl; cons = (record { name = refl; args = tt }, tt); fields = tt; alias = tt }
+
     lists : Says nodes (list_info element list) (variant 1 (con n.Nil [] ∷ con (n.Named nowhere) (plain (Leaf 0) ∷ plain (list_of (Leaf 0)) ∷ []) ∷ []))
     lists = record { name = refl; vars = refl; cons = (record { name = refl; args = tt }, (record { name = refl; args = (record { words = refl; ty = e }, (record { words = refl; ty = l }, tt)) }, tt)); fields = tt; alias = tt }
+
     options : Says nodes (option_info element) (variant 1 (con (n.Named nowhere) [] ∷ con (n.Named nowhere) (plain (Leaf 0) ∷ []) ∷ []))
     options = record { name = refl; vars = refl; cons = (record { name = refl; args = tt }, (record { name = refl; args = (record { words = refl; ty = e }, tt) }, tt)); fields = tt; alias = tt }

@@ -1,4 +1,3 @@
-pub mod Appends
 pub mod Members
 pub mod Firsts
 pub mod Repeats

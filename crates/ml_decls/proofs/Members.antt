@@ -3,7 +3,8 @@ use Rattle.std.proofs.Common.{◌≡◌, ℕ, zero, suc, ◌⊎◌, inl, inr, Li
 use Rattle.oxml_base.specs.declared.span.Span.{Span}
 use Rattle.oxml_base.specs.declared.refusal.Refusal.{Refusal}
 use Rattle.oxml_base.specs.declared.rule.Rule.{Rule}
-use Rattle.ml_decls.specs.Lists.{IsIn, all}
+use Rattle.ml_mentions.specs.Lists.{all}
+use Rattle.ml_decls.specs.Lists.{IsIn}
 use Rattle.ml_decls.specs.Verdicts.{where_wrong}
 
 pub in_left : {A : Type 0} → (a : A) (xs ys : List A) → IsIn a xs → IsIn a (xs ++ ys)

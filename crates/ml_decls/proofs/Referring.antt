@@ -1,5 +1,6 @@
 -- The violations of names and variables of types are exactly those that are listed.
-use Rattle.std.proofs.Common.{◌≡◌, ◌≢◌, ℕ, zero, suc, ◌≤◌, ◌<◌, ◌⊎◌, inl, inr, List, [], ◌∷◌, ◌++◌, map, length, Option, Some, None, slice_get, Bool, true, false, not, eqb, refl, sym, ap, ◌∙◌, subst, arith, nat_eq, nat_le}
+use Rattle.std.proofs.Common.{◌≡◌, ◌≢◌, ℕ, zero, suc, ◌≤◌, ◌<◌, ◌⊎◌, inl, inr, List, [], ◌∷◌, ◌++◌, map, length, Option, Some, None, slice_get, Bool, true, false, not, refl, sym, ap, ◌∙◌, subst, ⊎_elim, arith}
+use Rattle.std.specs.Prelude.{nat_eq, nat_le}
 use Rattle.oxml_base.specs.declared.span.Span.{Span}
 use Rattle.oxml_base.specs.declared.refusal.Refusal.{Refusal}
 use Rattle.oxml_base.specs.declared.rule.Rule.TheVariants.{ArgumentCount, UnboundVariable}
@@ -7,19 +8,22 @@ use Rattle.ml_tree.specs.declared.types.Decl.{Decl}
 use Rattle.ml_tree.specs.declared.program.Item.{Item}
 use Rattle.ml_tree.specs.declared.reference.TyRef.{TyRef}
 use Rattle.ml_tree.specs.declared.reference.TyRef.TheVariants as r
-use Rattle.ml_decls.specs.declared.mentions.Mention.{Mention}
-use Rattle.ml_decls.specs.declared.mentions.Mention.TheVariants.{Named, Variable}
-use Rattle.ml_decls.specs.declared.outline.Outline.{Outline}
-use Rattle.ml_decls.specs.Lists.{IsIn, all, find}
-use Rattle.ml_decls.specs.Programs.{declarations, annotations, all_mentions, body_mentions, variable_counts, outline}
+use Rattle.ml_mentions.specs.declared.mentions.Mention.{Mention}
+use Rattle.ml_mentions.specs.declared.mentions.Mention.TheVariants.{Named, Variable}
+use Rattle.ml_mentions.specs.declared.outline.Outline.{Outline}
+use Rattle.ml_mentions.specs.Lists.{all}
+use Rattle.ml_decls.specs.Lists.{IsIn, find}
+use Rattle.ml_mentions.specs.Programs.{declarations, annotations, all_mentions, body_mentions, variable_counts, outline}
 use Rattle.ml_decls.specs.Offences.{IsWrongCount, IsUnlisted}
 use Rattle.ml_decls.specs.Verdicts.{where_wrong, differs, miscounts, is_unlisted, verdict, verdicts, outline_verdicts, outline_counts, references}
 use Rattle.ml_decls.proofs.Members.{in_left, in_right, in_either, in_all_map, From, from_all_map, in_map, Image, from_map, in_where, from_where, violation}
-use Rattle.std.proofs.lemmas.Bool.Decides.{nat_tests}
+use Rattle.std.proofs.Math.Dec.{eqb, leb}
+use Rattle.std.proofs.lemmas.Bool.{leb-true}
+use Rattle.std.proofs.lemmas.Bool.Decides.{eqb_tells, leb_tells}
 
 -- ---- what a test means
 
-pub record Miscounts (counts : List ℕ) (target : Option TyRef) (given : ℕ) : Type 0 where
+pub record WrongCount (counts : List ℕ) (target : Option TyRef) (given : ℕ) : Type 0 where
   pub declaration : ℕ
   pub variables : ℕ
   pub names : target ≡ Some (r.Decl declaration)
@@ -27,16 +31,24 @@ pub record Miscounts (counts : List ℕ) (target : Option TyRef) (given : ℕ) :
   pub differ : given ≢ variables
 
 not_equal : (v given : ℕ) → not (nat_eq v given) ≡ true → given ≢ v
-not_equal v given e h = grind (arith, nat_tests)
+not_equal v given e h =
+    ⊎_elim
+    (λ (q : (eqb v given ≡ true) × (v ≡ given)). let z : not (eqb v given) ≡ false = ap not q.0 in let no' : true ≡ false = sym e ∙ z in absurd cc)
+    (λ (q : (eqb v given ≡ false) × (v ≡ given → ⊥)). q.1 (sym h))
+    (eqb_tells v given)
 
 is_different : (v given : ℕ) → (given ≡ v → ⊥) → not (nat_eq v given) ≡ true
-is_different v given h = grind (arith, nat_tests)
+is_different v given h =
+    ⊎_elim
+    (λ (q : (eqb v given ≡ true) × (v ≡ given)). absurd (h (sym q.1)))
+    (λ (q : (eqb v given ≡ false) × (v ≡ given → ⊥)). ap not q.0)
+    (eqb_tells v given)
 
 differs_means : (o : Option ℕ) (given : ℕ) → differs o given ≡ true → (v : ℕ) × (o ≡ Some v) × (given ≢ v)
 differs_means None given e = absurd cc
 differs_means (Some v) given e = (v, refl, not_equal v given e)
 
-miscounts_means : (counts : List ℕ) (target : Option TyRef) (given : ℕ) → miscounts counts target given ≡ true → Miscounts counts target given
+miscounts_means : (counts : List ℕ) (target : Option TyRef) (given : ℕ) → miscounts counts target given ≡ true → WrongCount counts target given
 miscounts_means counts None given e = absurd cc
 miscounts_means counts (Some (r.Var n)) given e = absurd cc
 miscounts_means counts (Some (r.Decl n)) given e = let d : (v : ℕ) × (slice_get counts n ≡ Some v) × (given ≢ v) = differs_means (slice_get counts n) given e in record { declaration = n; variables = d.0; names = refl; declared = d.1; differ = d.2 }
@@ -47,10 +59,14 @@ miscounts_is counts target given d v t e h = ap (λ x. miscounts counts x given)
 unlisted_means : (count : ℕ) (target : Option TyRef) → is_unlisted (Some count) target ≡ true → (n : ℕ) × (target ≡ Some (r.Var n)) × (count ≤ n)
 unlisted_means count None e = absurd cc
 unlisted_means count (Some (r.Decl n)) e = absurd cc
-unlisted_means count (Some (r.Var n)) e = let h : count ≤ n = grind (arith, nat_tests) in (n, refl, h)
+unlisted_means count (Some (r.Var n)) e = let h : count ≤ n = leb-true count n e in (n, refl, h)
 
 is_behind : (count n : ℕ) → count ≤ n → nat_le count n ≡ true
-is_behind count n h = grind (arith, nat_tests)
+is_behind count n h =
+    ⊎_elim
+    (λ (q : (leb count n ≡ true) × (count ≤ n)). q.0)
+    (λ (q : (leb count n ≡ false) × (n < count)). let o : n < count = q.1 in absurd (omega arith))
+    (leb_tells count n)
 
 unlisted_is : (count n : ℕ) (target : Option TyRef) → target ≡ Some (r.Var n) → count ≤ n → is_unlisted (Some count) target ≡ true
 unlisted_is count n target e h = ap (is_unlisted (Some count)) e ∙ is_behind count n h
@@ -83,7 +99,7 @@ Rule31 types items refusal = (refusal ≡ violation UnboundVariable refusal.span
 named_sound : (types : List (ℕ × TyRef)) (items : List Item) (counts : List ℕ) (id arguments : ℕ) (whole : Span) (refusal : Refusal) → counts ≡ variable_counts (declarations items) → IsIn (Named id whole arguments) (all_mentions items) → IsIn refusal (where_wrong (miscounts counts (find types id) arguments) ArgumentCount whole) → Rule30 types items refusal
 named_sound types items counts id arguments whole refusal same stands h =
     let u : (miscounts counts (find types id) arguments ≡ true) × (refusal ≡ violation ArgumentCount whole) = from_where (miscounts counts (find types id) arguments) ArgumentCount whole refusal h in
-    let m : Miscounts counts (find types id) arguments = miscounts_means counts (find types id) arguments u.0 in
+    let m : WrongCount counts (find types id) arguments = miscounts_means counts (find types id) arguments u.0 in
     let s : refusal.span ≡ whole = ap (λ (z : Refusal). z.span) u.1 in
     let declared : slice_get (variable_counts (declarations items)) m.declaration ≡ Some m.variables = subst (λ (z : List ℕ). slice_get z m.declaration ≡ Some m.variables) same m.declared in
     let wrong : IsWrongCount types items whole = record { id = id; arguments = arguments; declaration = m.declaration; variables = m.variables; stands = stands; names = m.names; declared = declared; differ = m.differ } in

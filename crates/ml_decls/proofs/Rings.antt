@@ -1,6 +1,9 @@
 -- Abbreviations that reach themselves are the nodes of a graph that lie on a cycle.
-use Rattle.std.proofs.Common.{◌≡◌, ℕ, zero, suc, ◌+◌, ◌-◌, ◌≤◌, ◌<◌, ◌⊎◌, inl, inr, List, [], ◌∷◌, ◌++◌, map, Option, Some, None, slice_get, slice_index_or, Bool, true, false, cond, ◌↔◌, refl, sym, ap, ◌∙◌, subst, arith, nat_le}
-use Rattle.std.proofs.lemmas.Bool.Decides.{nat_tests}
+use Rattle.std.proofs.Common.{◌≡◌, ℕ, zero, suc, ◌+◌, ◌-◌, ◌≤◌, ◌<◌, ◌⊎◌, inl, inr, List, [], ◌∷◌, ◌++◌, map, Option, Some, None, slice_get, slice_index_or, Bool, true, false, cond, ◌↔◌, refl, sym, ap, ◌∙◌, subst, ⊎_elim, arith}
+use Rattle.std.proofs.Math.Dec.{leb}
+use Rattle.std.proofs.lemmas.Bool.{leb-true}
+use Rattle.std.proofs.lemmas.Bool.Decides.{leb_tells}
+use Rattle.std.specs.Prelude.{nat_le}
 use Rattle.oxml_base.specs.declared.span.Span.{Span}
 use Rattle.oxml_base.specs.declared.refusal.Refusal.{Refusal}
 use Rattle.oxml_base.specs.declared.rule.Rule.TheVariants.{CyclicAbbreviation}
@@ -9,11 +12,12 @@ use Rattle.ml_tree.specs.declared.program.Item.{Item}
 use Rattle.ml_tree.specs.declared.reference.TyRef.{TyRef}
 use Rattle.ml_tree.specs.declared.reference.TyRef.TheVariants as r
 use Rattle.graph_cycles.specs.Paths.{Edge, Path, by_edge, then_on}
-use Rattle.ml_decls.specs.declared.mentions.Mention.{Mention}
-use Rattle.ml_decls.specs.declared.mentions.Mention.TheVariants.{Named, Variable}
-use Rattle.ml_decls.specs.declared.outline.Outline.{Outline}
-use Rattle.ml_decls.specs.Lists.{IsIn, all, find}
-use Rattle.ml_decls.specs.Programs.{declarations, body_mentions, abbreviates, outline}
+use Rattle.ml_mentions.specs.declared.mentions.Mention.{Mention}
+use Rattle.ml_mentions.specs.declared.mentions.Mention.TheVariants.{Named, Variable}
+use Rattle.ml_mentions.specs.declared.outline.Outline.{Outline}
+use Rattle.ml_mentions.specs.Lists.{all}
+use Rattle.ml_decls.specs.Lists.{IsIn, find}
+use Rattle.ml_mentions.specs.Programs.{declarations, body_mentions, abbreviates, outline}
 use Rattle.ml_decls.specs.Offences.{Abbreviates, Reaches, at_once, through, IsCyclic}
 use Rattle.ml_decls.specs.Verdicts.{where_wrong, written_number, target, targets, marked_from, ReportsCycles}
 use Rattle.ml_decls.proofs.Members.{in_left, in_right, in_either, in_all_map, From, from_all_map, in_at, at_in, ImageAt, at_map, map_at, in_where, from_where, violation}
@@ -24,7 +28,7 @@ below_seven : (n b : ℕ) → IsIn b (cond (nat_le 7 n) ((n - 7) ∷ []) []) →
 below_seven n b h = by_test (nat_le 7 n) refl h
   where
     by_test : (t : Bool) → nat_le 7 n ≡ t → IsIn b (cond t ((n - 7) ∷ []) []) → n ≡ b + 7
-    by_test true e (inl q) = let o : 7 ≤ n = grind (arith, nat_tests) in omega arith
+    by_test true e (inl q) = let o : 7 ≤ n = leb-true 7 n e in omega arith
     by_test true e (inr q) = absurd q
     by_test false e q = absurd q
 
@@ -34,39 +38,39 @@ written_is (Some (r.Var n)) b h = absurd h
 written_is (Some (r.Decl n)) b h = ap (λ z. Some (r.Decl z)) (below_seven n b h)
 
 seven_up : (b : ℕ) → IsIn b (cond (nat_le 7 (b + 7)) ((b + 7 - 7) ∷ []) [])
-seven_up b = by_test (nat_le 7 (b + 7)) refl
-  where
-    by_test : (t : Bool) → nat_le 7 (b + 7) ≡ t → IsIn b (cond t ((b + 7 - 7) ∷ []) [])
-    by_test true e = inl (omega arith)
-    by_test false e = let h : ⊥ = grind (arith, nat_tests) in absurd h
+seven_up b =
+    ⊎_elim
+    (λ (q : (leb 7 (b + 7) ≡ true) × (7 ≤ b + 7)). let n : b ≡ b + 7 - 7 = omega arith in subst (λ (t : Bool). IsIn b (cond t ((b + 7 - 7) ∷ []) [])) (sym q.0) (inl n))
+    (λ (q : (leb 7 (b + 7) ≡ false) × (b + 7 < 7)). let o : b + 7 < 7 = q.1 in absurd (omega arith))
+    (leb_tells 7 (b + 7))
 
 written_in : (o : Option TyRef) (b : ℕ) → o ≡ Some (r.Decl (b + 7)) → IsIn b (written_number o)
 written_in o b e = rw e (seven_up b)
 
 -- a name that gives an edge
-record Mentioned (types : List (ℕ × TyRef)) (ms : List Mention) (b : ℕ) : Type 0 where
+record Naming (types : List (ℕ × TyRef)) (ms : List Mention) (b : ℕ) : Type 0 where
   pub id : ℕ
   pub whole : Span
   pub arguments : ℕ
   pub stands : IsIn (Named id whole arguments) ms
   pub names : find types id ≡ Some (r.Decl (b + 7))
 
-mentioned : (types : List (ℕ × TyRef)) (ms : List Mention) (b : ℕ) → IsIn b (all (map (target types) ms)) → Mentioned types ms b
+mentioned : (types : List (ℕ × TyRef)) (ms : List Mention) (b : ℕ) → IsIn b (all (map (target types) ms)) → Naming types ms b
 mentioned types ms b h = by_item f.item f.stands f.gives
   where
     f : From (target types) ms b
     f = from_all_map (target types) b ms h
 
-    by_item : (m : Mention) → IsIn m ms → IsIn b (target types m) → Mentioned types ms b
+    by_item : (m : Mention) → IsIn m ms → IsIn b (target types m) → Naming types ms b
     by_item (Named id whole n) s g = record { id = id; whole = whole; arguments = n; stands = s; names = written_is (find types id) b g }
     by_item (Variable id place) s g = absurd g
 
 -- the successors of a declaration
-record Alias (types : List (ℕ × TyRef)) (body_is : Bool) (ms : List Mention) (b : ℕ) : Type 0 where
+record IsAlias (types : List (ℕ × TyRef)) (body_is : Bool) (ms : List Mention) (b : ℕ) : Type 0 where
   pub is : body_is ≡ true
-  pub mention : Mentioned types ms b
+  pub mention : Naming types ms b
 
-alias : (types : List (ℕ × TyRef)) (t : Bool) (ms : List Mention) (b : ℕ) → IsIn b (cond t (all (map (target types) ms)) []) → Alias types t ms b
+alias : (types : List (ℕ × TyRef)) (t : Bool) (ms : List Mention) (b : ℕ) → IsIn b (cond t (all (map (target types) ms)) []) → IsAlias types t ms b
 alias types true ms b h = record { is = refl; mention = mentioned types ms b h }
 alias types false ms b h = absurd h
 
@@ -76,7 +80,7 @@ edge_abbreviates types items a b e =
     let d : ImageAt outline (declarations items) a o.item = at_map outline (declarations items) a o.item o.stands in
     let successors : e.successors ≡ targets types (outline d.item) = o.is ∙ ap (targets types) d.is in
     let b_in : IsIn b (targets types (outline d.item)) = subst (λ (z : List ℕ). IsIn b z) successors (in_at e.successors e.place b e.leads) in
-    let m : Alias types (abbreviates d.item.body) (body_mentions d.item.body) b = alias types (abbreviates d.item.body) (body_mentions d.item.body) b b_in in
+    let m : IsAlias types (abbreviates d.item.body) (body_mentions d.item.body) b = alias types (abbreviates d.item.body) (body_mentions d.item.body) b b_in in
     record { place = a; declaration = d.item; id = m.mention.id; whole = m.mention.whole; arguments = m.mention.arguments; number = refl; declared = d.stands; is_abbreviation = m.is; stands = m.mention.stands; names = m.mention.names }
 
 alias_in : (types : List (ℕ × TyRef)) (t : Bool) (ms : List Mention) (b id n : ℕ) (whole : Span) → t ≡ true → IsIn (Named id whole n) ms → find types id ≡ Some (r.Decl (b + 7)) → IsIn b (cond t (all (map (target types) ms)) [])

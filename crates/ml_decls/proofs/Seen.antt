@@ -10,7 +10,7 @@ use Rattle.oxml_base.specs.declared.refusal.Refusal.{Refusal}
 use Rattle.oxml_base.specs.declared.rule.Rule.TheVariants.{DeclaredTwice}
 use Rattle.ml_decls.specs.Offences.{spelling}
 use Rattle.ml_decls.specs.Verdicts.{where_wrong, has, is_seen, twice}
-use Rattle.ml_decls.proofs.Appends.{from_place}
+use Rattle.ml_mentions.proofs.Appends.{from_place}
 
 or_assoc : (a b c : Bool) → ((a || b) || c) ≡ (a || (b || c))
 or_assoc true b c = refl

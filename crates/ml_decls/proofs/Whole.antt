@@ -7,9 +7,10 @@ use Rattle.oxml_base.specs.declared.rule.Rule.TheVariants as rule
 use Rattle.ml_tree.specs.declared.types.Decl.{Decl}
 use Rattle.ml_tree.specs.declared.program.Item.{Item}
 use Rattle.ml_tree.specs.declared.reference.TyRef.{TyRef}
-use Rattle.ml_decls.specs.declared.outline.Outline.{Outline}
-use Rattle.ml_decls.specs.Lists.{IsIn, all}
-use Rattle.ml_decls.specs.Programs.{declarations, type_names, constructor_names, field_names, body_constructors, body_fields, outline}
+use Rattle.ml_mentions.specs.declared.outline.Outline.{Outline}
+use Rattle.ml_mentions.specs.Lists.{all}
+use Rattle.ml_decls.specs.Lists.{IsIn}
+use Rattle.ml_mentions.specs.Programs.{declarations, type_names, constructor_names, field_names, body_constructors, body_fields, outline}
 use Rattle.ml_decls.specs.Offences.{Violates, Offends, IsRepeated, IsDeclaredTwice}
 use Rattle.ml_decls.specs.Verdicts.{twice, all_twice, references, marked_from, ReportsCycles, IsAllOf}
 use Rattle.ml_decls.proofs.Members.{in_left, in_right, in_either, violation}

@@ -6,7 +6,7 @@ use Rattle.ml_types.specs.declared.declared.Decls.{Decls}
 use Rattle.ml_types.specs.declared.node.TyTable.{TyTable}
 use Rattle.ml_decls.specs.declared.checking.DeclErr.{DeclErr}
 use Rattle.ml_decls.specs.declared.checking.DeclErr.TheVariants.{Refused, NoMemory}
-use Rattle.ml_decls.specs.Programs.{declarations}
+use Rattle.ml_mentions.specs.Programs.{declarations}
 use Rattle.ml_decls.specs.Offences.{Offends, IsFirst}
 use Rattle.ml_decls.specs.Tables.{Declares}
 

@@ -1,7 +1,4 @@
 pub mod Lists
-pub mod Mentions
-pub mod Written
-pub mod Programs
 pub mod Offences
 pub mod Verdicts
 pub mod Said

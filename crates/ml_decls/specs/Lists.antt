@@ -1,15 +1,10 @@
 -- What stands in a list.
-use Rattle.std.specs.Prelude.{◌≡◌, ◌⊎◌, ℕ, List, [], ◌∷◌, ◌++◌, Option, Some, None, cond, nat_eq, flat_map}
+use Rattle.std.specs.Prelude.{◌≡◌, ◌⊎◌, ℕ, List, [], ◌∷◌, Option, Some, None, cond, nat_eq}
 
 -- a is an item of a list
 abbrev pub IsIn : {A : Type 0} → A → List A → Type 0
 IsIn a [] = ⊥
 IsIn a (x ∷ xs) = (a ≡ x) ⊎ IsIn a xs
-
--- lists one behind the other
-abbrev pub all : {A : Type 0} → List (List A) → List A
-all [] = []
-all (xs ∷ xss) = xs ++ all xss
 
 -- what stands at a number in a list of pairs
 abbrev pub find : {A : Type 0} → List (ℕ × A) → ℕ → Option A

@@ -9,9 +9,9 @@ use Rattle.ml_tree.specs.declared.types.Decl.{Decl}
 use Rattle.ml_tree.specs.declared.program.Item.{Item}
 use Rattle.ml_tree.specs.declared.reference.TyRef.{TyRef}
 use Rattle.ml_tree.specs.declared.reference.TyRef.TheVariants as r
-use Rattle.ml_decls.specs.declared.mentions.Mention.TheVariants.{Named, Variable}
+use Rattle.ml_mentions.specs.declared.mentions.Mention.TheVariants.{Named, Variable}
 use Rattle.ml_decls.specs.Lists.{IsIn, find}
-use Rattle.ml_decls.specs.Programs.{declarations, type_names, constructor_names, field_names, variable_counts, body_mentions, all_mentions, abbreviates}
+use Rattle.ml_mentions.specs.Programs.{declarations, type_names, constructor_names, field_names, variable_counts, body_mentions, all_mentions, abbreviates}
 
 -- the bytes of a text at a place
 abbrev pub spelling : List ℕ → Span → List ℕ

@@ -6,15 +6,16 @@ use Rattle.oxml_base.specs.declared.rule.Rule.{Rule}
 use Rattle.oxml_base.specs.declared.rule.Rule.TheVariants.{ArgumentCount, UnboundVariable, DeclaredTwice, CyclicAbbreviation}
 use Rattle.ml_tree.specs.declared.reference.TyRef.{TyRef}
 use Rattle.ml_tree.specs.declared.reference.TyRef.TheVariants as r
-use Rattle.ml_decls.specs.declared.mentions.Mention.{Mention}
-use Rattle.ml_decls.specs.declared.mentions.Mention.TheVariants.{Named, Variable}
-use Rattle.ml_decls.specs.declared.outline.Outline.{Outline}
+use Rattle.ml_mentions.specs.declared.mentions.Mention.{Mention}
+use Rattle.ml_mentions.specs.declared.mentions.Mention.TheVariants.{Named, Variable}
+use Rattle.ml_mentions.specs.declared.outline.Outline.{Outline}
 use Rattle.std.specs.Str.{bytes_eq}
 use Rattle.std.specs.List.{list_any}
 use Rattle.graph_cycles.specs.Paths.{Path}
 use Rattle.ml_tree.specs.declared.program.Item.{Item}
-use Rattle.ml_decls.specs.Lists.{IsIn, all, find}
-use Rattle.ml_decls.specs.Programs.{annotations}
+use Rattle.ml_mentions.specs.Lists.{all}
+use Rattle.ml_decls.specs.Lists.{IsIn, find}
+use Rattle.ml_mentions.specs.Programs.{annotations}
 use Rattle.ml_decls.specs.Offences.{spelling, Offends}
 
 -- one violation, where it is one

@@ -1,10 +1,10 @@
 //! The declarations of a program at their types.
 ghost use Rattle.std.specs.Prelude.{[], map, Some, None, IfOk, OnOk};
-ghost use Rattle.ml_decls.specs.Programs.{declarations};
+ghost use Rattle.ml_mentions.specs.Programs.{declarations};
 ghost use Rattle.ml_decls.specs.Said.{written, said_arg, said_con, said_field, said};
 ghost use Rattle.ml_decls.specs.Tables.{Each, ArgSays, ConSays, FieldSays, Says, Grows, Adds, Declares};
 
-use crate::outline::item_declarations;
+use ml_mentions::item_declarations;
 use crate::predefined::predefined;
 use crate::table::{Making, count, push_arg, push_type};
 use ml_tree::{Arg, ConDecl, ConName, Decl, DeclBody, FieldDecl, Item, Scoped, TyExpr};

@@ -1,18 +1,15 @@
 //! Whether the declarations of a program are well formed, and what they declare.
 ghost use Rattle.std.specs.Prelude.{◌≡◌, ◌++◌, IfOk, IfErr, OnOk};
-ghost use Rattle.ml_decls.specs.Programs.{annotations};
 ghost use Rattle.ml_decls.specs.Offences.{NoneOrFirst};
 ghost use Rattle.ml_decls.specs.Verdicts.{references, IsAllOf};
 ghost use Rattle.ml_decls.specs.Answers.{IsChecked, Explains};
 
 use crate::build::declare;
 use crate::cycles::report_cycles;
-use crate::mentions::Mention;
+use ml_mentions::{Outline, annotations, outlines};
 use crate::names::report_names;
 use crate::offences::first_offence;
-use crate::outline::{Outline, outlines};
 use crate::references::{report_mentions, report_outlines, variable_counts};
-use crate::written::push_annotations;
 use ml_tree::{Item, Scoped};
 use ml_types::{Decls, TyTable};
 use oxml_base::{Items, NoMemory, Refusal};
@@ -27,14 +24,6 @@ pub enum DeclErr {
     NoMemory,
 }
 
-fn annotations_of(alloc: Global, items: &[Item]) -> Result<Items<Mention>, NoMemory>
-    ensures { IfOk result (λ list. list ≡ annotations items.now) }
-{
-    let mut list = Items::new(alloc);
-    push_annotations(items, &mut list)?;
-    Ok(list)
-}
-
 /// Adds the violations of the rules on names and variables of types.
 fn report_references(
     alloc: Global,
@@ -47,7 +36,7 @@ fn report_references(
 {
     let counts = variable_counts(alloc, outlines)?;
     report_outlines(s, counts.as_slice(), outlines, offences)?;
-    let annotations = annotations_of(alloc, items)?;
+    let annotations = annotations(alloc, items)?;
     report_mentions(s, counts.as_slice(), None, annotations.as_slice(), offences)?;
     Ok(())
 }

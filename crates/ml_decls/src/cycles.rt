@@ -1,11 +1,11 @@
 //! Abbreviations that name themselves.
 ghost use Rattle.std.specs.Prelude.{◌≡◌, ◌++◌, map, slice_index_or, false, IfOk, OnOk};
-ghost use Rattle.ml_decls.specs.Lists.{all};
+ghost use Rattle.ml_mentions.specs.Lists.{all};
 ghost use Rattle.ml_decls.specs.Verdicts.{written_number, target, targets, marked_from, ReportsCycles};
 
-use crate::mentions::Mention;
+use ml_mentions::Mention;
 use crate::offences::offence_where;
-use crate::outline::Outline;
+use ml_mentions::Outline;
 use crate::references::target;
 use graph_cycles::on_cycles;
 use ml_tree::{Scoped, TyRef};

@@ -4,15 +4,12 @@
 mod build;
 mod checking;
 mod cycles;
-mod mentions;
 mod names;
 mod offences;
-mod outline;
 mod predefined;
 mod references;
 mod table;
 #[cfg(test)]
 mod tests;
-mod written;
 
 pub use checking::{DeclErr, check_decls};

@@ -1,13 +1,13 @@
 //! Names that are declared twice.
 ghost use Rattle.std.specs.Prelude.{◌≡◌, ◌||◌, ℕ, List, [], ◌++◌, map, take, drop, IfOk, OnOk};
 ghost use Rattle.std.specs.Str.{bytes_eq};
-ghost use Rattle.ml_decls.specs.declared.outline.Outline.{Outline};
-ghost use Rattle.ml_decls.specs.Lists.{all};
+ghost use Rattle.ml_mentions.specs.declared.outline.Outline.{Outline};
+ghost use Rattle.ml_mentions.specs.Lists.{all};
 ghost use Rattle.ml_decls.specs.Offences.{spelling};
 ghost use Rattle.ml_decls.specs.Verdicts.{has, twice, all_twice};
 
 use crate::offences::offence_where;
-use crate::outline::Outline;
+use ml_mentions::Outline;
 use indexmap::IndexSet;
 use oxml_base::{Items, NoMemory, Refusal, Rule, Span};
 use std::alloc::Global;

@@ -1,12 +1,13 @@
 //! What the names and variables of types stand for: how many arguments names have, and whether
 //! variables are listed.
 ghost use Rattle.std.specs.Prelude.{◌≡◌, ◌++◌, map, slice_get, IfOk, OnOk};
-ghost use Rattle.ml_decls.specs.Lists.{all, find};
+ghost use Rattle.ml_mentions.specs.Lists.{all};
+ghost use Rattle.ml_decls.specs.Lists.{find};
 ghost use Rattle.ml_decls.specs.Verdicts.{outline_counts, differs, miscounts, is_unlisted, verdict, verdicts, outline_verdicts};
 
-use crate::mentions::Mention;
+use ml_mentions::Mention;
 use crate::offences::offence_where;
-use crate::outline::Outline;
+use ml_mentions::Outline;
 use ml_tree::{Scoped, TyRef};
 use oxml_base::{Items, NoMemory, Refusal, Rule};
 use sqlite_items::at;

@@ -99,11 +99,7 @@ fn push_var(number: u32, made: &mut Making) -> Result<TyId, NoMemory>
 }
 
 /// What a type expression names, at arguments. Each that is a name or a variable has a reference.
-fn push_named(
-    target: Option<TyRef>,
-    args: Items<TyId>,
-    made: &mut Making,
-) -> Result<TyId, NoMemory>
+fn push_named(target: Option<TyRef>, args: Items<TyId>, made: &mut Making) -> Result<TyId, NoMemory>
     requires { (k : ℕ) (p : TyId) → slice_get args k ≡ Some p → p.0 < length made.old.nodes }
     ensures grows { OnOk result (Grows made.old.nodes made.new.nodes) }
     ensures ty { IfOk result (λ id. (ts : List Tree) → Each (HasType made.old.nodes) args ts → HasType made.new.nodes id (type_named ts target)) }

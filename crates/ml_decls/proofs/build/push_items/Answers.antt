@@ -1,5 +1,5 @@
 use Rattle.std.proofs.Common.{sym, ap, ◌∙◌, ◌++◌}
-use Rattle.ml_decls.specs.Programs.{declarations}
+use Rattle.ml_mentions.specs.Programs.{declarations}
 use Rattle.ml_decls.proofs.Infos.{adds_nothing, adds_on, adds_same, declarations_more, taken_all}
 use Rattle.ml_decls.proofs.build.push_items.Goals as goal
 

@@ -1,5 +1,5 @@
 use Rattle.std.proofs.Common.{take}
-use Rattle.ml_decls.specs.Programs.{declarations}
+use Rattle.ml_mentions.specs.Programs.{declarations}
 use Rattle.ml_decls.specs.Tables.{Adds}
 use Rattle.ml_decls.proofs.build.push_items.Given as goal
 

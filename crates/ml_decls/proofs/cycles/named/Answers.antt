@@ -1,4 +1,4 @@
-use Rattle.ml_decls.proofs.Appends.{all_step, all_end}
+use Rattle.ml_mentions.proofs.Appends.{all_step, all_end}
 use Rattle.ml_decls.specs.Verdicts.{target}
 use Rattle.ml_decls.proofs.cycles.named.Goals as goal
 

@@ -1,5 +1,5 @@
 use Rattle.std.proofs.Common.{◌≡◌, ◌++◌, map, drop}
-use Rattle.ml_decls.specs.Lists.{all}
+use Rattle.ml_mentions.specs.Lists.{all}
 use Rattle.ml_decls.specs.Verdicts.{target}
 use Rattle.ml_decls.proofs.cycles.named.Given as goal
 

@@ -1,5 +1,5 @@
-use Rattle.ml_decls.proofs.Appends.{all_step, all_end}
-use Rattle.ml_decls.specs.declared.outline.Outline.{Outline}
+use Rattle.ml_mentions.proofs.Appends.{all_step, all_end}
+use Rattle.ml_mentions.specs.declared.outline.Outline.{Outline}
 use Rattle.ml_decls.proofs.names.constructor_names.Goals as goal
 
 pub loop-one-preserved : goal.loop-one-preserved

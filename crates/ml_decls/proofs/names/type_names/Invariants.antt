@@ -1,5 +1,5 @@
 use Rattle.std.proofs.Common.{◌≡◌, ◌++◌, map, drop}
-use Rattle.ml_decls.specs.declared.outline.Outline.{Outline}
+use Rattle.ml_mentions.specs.declared.outline.Outline.{Outline}
 use Rattle.ml_decls.proofs.names.type_names.Given as goal
 
 abbrev pub invariant-loop-one : goal.invariant-loop-one

@@ -1,5 +1,5 @@
 use Rattle.std.proofs.Common.{◌≡◌, ◌++◌, map, drop}
-use Rattle.ml_decls.specs.Lists.{all}
+use Rattle.ml_mentions.specs.Lists.{all}
 use Rattle.ml_decls.specs.Verdicts.{verdict}
 use Rattle.ml_decls.proofs.references.report_mentions.Given as goal
 

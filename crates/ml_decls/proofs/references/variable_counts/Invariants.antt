@@ -1,5 +1,5 @@
 use Rattle.std.proofs.Common.{◌≡◌, ◌++◌, map, drop}
-use Rattle.ml_decls.specs.declared.outline.Outline.{Outline}
+use Rattle.ml_mentions.specs.declared.outline.Outline.{Outline}
 use Rattle.ml_decls.specs.Verdicts.{outline_counts}
 use Rattle.ml_decls.proofs.references.variable_counts.Given as goal
 

@@ -1,7 +1,0 @@
-use Rattle.std.proofs.Common.{◌≡◌, ◌++◌, map, drop}
-use Rattle.ml_decls.specs.Lists.{all}
-use Rattle.ml_decls.specs.Written.{in_param}
-use Rattle.ml_decls.proofs.written.params.Given as goal
-
-abbrev pub invariant-loop-one : goal.invariant-loop-one
-invariant-loop-one l = l.found ++ all (map in_param (drop l.one-index l.list)) ≡ l.initial.found ++ all (map in_param l.list)
