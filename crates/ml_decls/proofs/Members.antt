@@ -34,11 +34,11 @@ pub record From {A B : Type 0} (f : A → List B) (xs : List A) (b : B) : Type 0
 
 pub from_all_map : {A B : Type 0} → (f : A → List B) (b : B) (xs : List A) → IsIn b (all (map f xs)) → From f xs b
 from_all_map f b [] h = absurd h
-from_all_map f b (x ∷ xs) h = by_side (in_either b (f x) (all (map f xs)) h)
+from_all_map f b (x ∷ xs) h = by_side (λ u. from_all_map f b xs u) (in_either b (f x) (all (map f xs)) h)
   where
-    by_side : IsIn b (f x) ⊎ IsIn b (all (map f xs)) → From f (x ∷ xs) b
-    by_side (inl u) = record { item = x; stands = inl refl; gives = u }
-    by_side (inr u) = let r : From f xs b = from_all_map f b xs u in record { item = r.item; stands = inr r.stands; gives = r.gives }
+    by_side : (IsIn b (all (map f xs)) → From f xs b) → IsIn b (f x) ⊎ IsIn b (all (map f xs)) → From f (x ∷ xs) b
+    by_side rest (inl u) = record { item = x; stands = inl refl; gives = u }
+    by_side rest (inr u) = let r : From f xs b = rest u in record { item = r.item; stands = inr r.stands; gives = r.gives }
 
 pub in_map : {A B : Type 0} → (f : A → B) (a : A) (xs : List A) → IsIn a xs → IsIn (f a) (map f xs)
 in_map f a [] h = absurd h

@@ -46,14 +46,13 @@ behind text seen first names name l = record { place = suc l.place; stands = l.s
 
 pub twice_sound : (text : List ℕ) (seen : List (List ℕ)) (names : List Span) (r : Refusal) → IsIn r (twice text seen names) → (r ≡ violation DeclaredTwice r.span) × Later text seen names r.span
 twice_sound text seen [] r h = absurd h
-twice_sound text seen (first ∷ names) r h = by_side (in_either r (where_wrong (is_seen seen (spelling text first)) DeclaredTwice first) (twice text (spelling text first ∷ seen) names) h)
+twice_sound text seen (first ∷ names) r h = by_side (λ u. twice_sound text (spelling text first ∷ seen) names r u) (in_either r (where_wrong (is_seen seen (spelling text first)) DeclaredTwice first) (twice text (spelling text first ∷ seen) names) h)
   where
     here : (is_seen seen (spelling text first) ≡ true) × (r ≡ violation DeclaredTwice first) → (r ≡ violation DeclaredTwice r.span) × Later text seen (first ∷ names) r.span
-    here u = let s : r.span ≡ first = ap (λ (z : Refusal). z.span) u.1 in (u.1 ∙ ap (violation DeclaredTwice) (sym s), record { place = 0; stands = ap Some (sym s); before = was_seen (rw s u.0) })
-
-    by_side : IsIn r (where_wrong (is_seen seen (spelling text first)) DeclaredTwice first) ⊎ IsIn r (twice text (spelling text first ∷ seen) names) → (r ≡ violation DeclaredTwice r.span) × Later text seen (first ∷ names) r.span
-    by_side (inl u) = here (from_where (is_seen seen (spelling text first)) DeclaredTwice first r u)
-    by_side (inr u) = let l : (r ≡ violation DeclaredTwice r.span) × Later text (spelling text first ∷ seen) names r.span = twice_sound text (spelling text first ∷ seen) names r u in (l.0, behind text seen first names r.span l.1)
+    here u = let s : r.span ≡ first = ap (λ (z : Refusal). z.span) u.1 in (u.1 ∙ ap (violation DeclaredTwice) (sym s), record { place = 0; stands = ap Some (sym s); before = was_seen (subst (λ (z : Span). is_seen seen (spelling text z) ≡ true) (sym s) u.0) })
+    by_side : (IsIn r (twice text (spelling text first ∷ seen) names) → (r ≡ violation DeclaredTwice r.span) × Later text (spelling text first ∷ seen) names r.span) → IsIn r (where_wrong (is_seen seen (spelling text first)) DeclaredTwice first) ⊎ IsIn r (twice text (spelling text first ∷ seen) names) → (r ≡ violation DeclaredTwice r.span) × Later text seen (first ∷ names) r.span
+    by_side rest (inl u) = here (from_where (is_seen seen (spelling text first)) DeclaredTwice first r u)
+    by_side rest (inr u) = let l : (r ≡ violation DeclaredTwice r.span) × Later text (spelling text first ∷ seen) names r.span = rest u in (l.0, behind text seen first names r.span l.1)
 
 pub twice_complete : (text : List ℕ) (seen : List (List ℕ)) (names : List Span) (later : ℕ) (name : Span) → slice_get names later ≡ Some name → Before text seen names later name → IsIn (violation DeclaredTwice name) (twice text seen names)
 twice_complete text seen [] later name e b = absurd cc
@@ -63,7 +62,7 @@ twice_complete text seen (first ∷ names) zero name e b = by_before b
     same = cc
 
     by_before : Before text seen (first ∷ names) 0 name → IsIn (violation DeclaredTwice name) (twice text seen (first ∷ names))
-    by_before (was_seen t) = in_left (violation DeclaredTwice name) (where_wrong (is_seen seen (spelling text first)) DeclaredTwice first) (twice text (spelling text first ∷ seen) names) (rw same (in_where (is_seen seen (spelling text name)) DeclaredTwice name t))
+    by_before (was_seen t) = in_left (violation DeclaredTwice name) (where_wrong (is_seen seen (spelling text first)) DeclaredTwice first) (twice text (spelling text first ∷ seen) names) (subst (λ (z : Span). IsIn (violation DeclaredTwice name) (where_wrong (is_seen seen (spelling text z)) DeclaredTwice z)) (sym same) (in_where (is_seen seen (spelling text name)) DeclaredTwice name t))
     by_before (stands k other h p q) = absurd (omega arith)
 twice_complete text seen (first ∷ names) (suc later) name e b = in_right (violation DeclaredTwice name) (where_wrong (is_seen seen (spelling text first)) DeclaredTwice first) (twice text (spelling text first ∷ seen) names) (twice_complete text (spelling text first ∷ seen) names later name e (by_before b))
   where

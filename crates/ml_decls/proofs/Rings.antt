@@ -134,18 +134,17 @@ record Marked (marks : List Bool) (first : ℕ) (os : List Outline) (name : Span
 
 marked_sound : (marks : List Bool) (first : ℕ) (os : List Outline) (refusal : Refusal) → IsIn refusal (marked_from marks first os) → (refusal ≡ violation CyclicAbbreviation refusal.span) × Marked marks first os refusal.span
 marked_sound marks first [] refusal h = absurd h
-marked_sound marks first (o ∷ os) refusal h = by_side (in_either refusal (where_wrong (slice_index_or marks first false) CyclicAbbreviation o.name) (marked_from marks (suc first) os) h)
+marked_sound marks first (o ∷ os) refusal h = by_side (λ u. marked_sound marks (suc first) os refusal u) (in_either refusal (where_wrong (slice_index_or marks first false) CyclicAbbreviation o.name) (marked_from marks (suc first) os) h)
   where
     here : (slice_index_or marks first false ≡ true) × (refusal ≡ violation CyclicAbbreviation o.name) → (refusal ≡ violation CyclicAbbreviation refusal.span) × Marked marks first (o ∷ os) refusal.span
     here u =
         let s : refusal.span ≡ o.name = ap (λ (z : Refusal). z.span) u.1 in
         let n : first + 0 ≡ first = omega arith in
         (u.1 ∙ ap (violation CyclicAbbreviation) (sym s), record { place = 0; item = o; stands = refl; is = sym s; marked = ap (λ z. slice_index_or marks z false) n ∙ u.0 })
-
-    by_side : IsIn refusal (where_wrong (slice_index_or marks first false) CyclicAbbreviation o.name) ⊎ IsIn refusal (marked_from marks (suc first) os) → (refusal ≡ violation CyclicAbbreviation refusal.span) × Marked marks first (o ∷ os) refusal.span
-    by_side (inl u) = here (from_where (slice_index_or marks first false) CyclicAbbreviation o.name refusal u)
-    by_side (inr u) =
-        let m : (refusal ≡ violation CyclicAbbreviation refusal.span) × Marked marks (suc first) os refusal.span = marked_sound marks (suc first) os refusal u in
+    by_side : (IsIn refusal (marked_from marks (suc first) os) → (refusal ≡ violation CyclicAbbreviation refusal.span) × Marked marks (suc first) os refusal.span) → IsIn refusal (where_wrong (slice_index_or marks first false) CyclicAbbreviation o.name) ⊎ IsIn refusal (marked_from marks (suc first) os) → (refusal ≡ violation CyclicAbbreviation refusal.span) × Marked marks first (o ∷ os) refusal.span
+    by_side rest (inl u) = here (from_where (slice_index_or marks first false) CyclicAbbreviation o.name refusal u)
+    by_side rest (inr u) =
+        let m : (refusal ≡ violation CyclicAbbreviation refusal.span) × Marked marks (suc first) os refusal.span = rest u in
         let n : first + suc m.1.place ≡ suc first + m.1.place = omega arith in
         (m.0, record { place = suc m.1.place; item = m.1.item; stands = m.1.stands; is = m.1.is; marked = ap (λ z. slice_index_or marks z false) n ∙ m.1.marked })
 

@@ -14,7 +14,7 @@ pub from_place : {A : Type 0} → (list : List A) (i : ℕ) (item : A) → i < l
 from_place list i item h is = drop-cons list i item h ∙ ap (λ z. z ∷ drop (suc i) list) (sym is) ∙ ap (λ n. item ∷ drop n list) (sym (add-one i))
 
 pub all_step : {A B : Type 0} → (g : A → List B) (list : List A) (i : ℕ) (item : A) (now next total : List B) → i < length list → item ≡ get_or list i item → next ≡ now ++ g item → now ++ all (map g (drop i list)) ≡ total → next ++ all (map g (drop (i + 1) list)) ≡ total
-all_step g list i item now next total h is e inv =
+all_step {B = B} g list i item now next total h is e inv =
     let rest : List B = all (map g (drop (i + 1) list)) in
     ap (λ z. z ++ rest) e ∙ append_assoc now (g item) rest ∙ ap (λ z. now ++ all (map g z)) (sym (from_place list i item h is)) ∙ inv
 

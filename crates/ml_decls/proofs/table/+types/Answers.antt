@@ -1,4 +1,5 @@
-use Rattle.std.proofs.Common.{map, sym, ◌∙◌, length-map}
+use Rattle.std.proofs.Common.{map}
+use Rattle.std.proofs.lemmas.List.{length-map}
 use Rattle.ml_decls.specs.Said.{written}
 use Rattle.ml_decls.specs.Tables.{HasType}
 use Rattle.ml_decls.proofs.Trees.{grows_not, grows_on, grows_push, each_weaker, each_step, each_end, type_grows, type_within, type_arrow, parts_within}
@@ -35,7 +36,7 @@ pub push_product-returns-clause-grows : goal.push_product-returns-clause-grows
 push_product-returns-clause-grows t c = grows_on _ _ _ c.in_ok-parts.ensures.grows c.in_ok-ty.ensures.grows
 
 pub push_product-returns-clause-ty : goal.push_product-returns-clause-ty
-push_product-returns-clause-ty t c = rw (← length-map (written c.args.s.now.types) c.args.parts.now) (c.in_ok-ty.ensures.ty (map (written c.args.s.now.types) c.args.parts.now) c.in_ok-parts.ensures.types)
+push_product-returns-clause-ty t c = rw (← length-map c.args.parts.now (written c.args.s.now.types)) (c.in_ok-ty.ensures.ty (map (written c.args.s.now.types) c.args.parts.now) c.in_ok-parts.ensures.types)
 
 pub push_function-push_arrow-requires-clause-from : goal.push_function-push_arrow-requires-clause-from
 push_function-push_arrow-requires-clause-from t c = type_within _ _ _ (type_grows _ _ _ _ c.in_ok-to.ensures.grows c.in_ok-from.ensures.ty)
