@@ -1,5 +1,5 @@
 -- The first of several violations.
-use Rattle.std.proofs.Common.{◌≡◌, ℕ, ◌<◌, ◌⊎◌, inl, inr, List, [], ◌∷◌, ◌++◌, Option, Some, None, refl, sym, ap, subst, arith, IfSome, IfNone}
+use Rattle.std.proofs.Common.{◌≡◌, ℕ, ◌+◌, ◌<◌, ◌≤◌, ◌⊎◌, inl, inr, List, [], ◌∷◌, ◌++◌, Option, Some, None, length, take, get_or, refl, sym, ap, subst, arith, IfSome, IfNone}
 use Rattle.oxml_base.specs.declared.refusal.Refusal.{Refusal}
 use Rattle.oxml_base.specs.Rules.{rule_number}
 use Rattle.ml_decls.specs.Lists.{IsIn}
@@ -7,6 +7,7 @@ use Rattle.ml_tree.specs.declared.program.Item.{Item}
 use Rattle.ml_tree.specs.declared.reference.TyRef.{TyRef}
 use Rattle.ml_decls.specs.Offences.{ComesBefore, NoneOrFirst}
 use Rattle.ml_decls.specs.Verdicts.{IsAllOf}
+use Rattle.ml_decls.proofs.Infos.{taken_more, taken_all}
 use Rattle.ml_decls.proofs.Members.{in_either, in_left, in_right}
 
 -- the first of those so far
@@ -77,3 +78,24 @@ least_more list more first r chosen l m (inr c) = subst (λ (z : Refusal). IsLea
 pub none_or_first : (text : List ℕ) (types : List (ℕ × TyRef)) (items : List Item) (list : List Refusal) (o : Option Refusal) → IsAllOf text types items list → IfNone o (list ≡ []) → IfSome o (λ first. IsIn first list) → IfSome o (λ first. (other : Refusal) → IsIn other list → ComesBefore other first → ⊥) → NoneOrFirst text types items o
 none_or_first text types items list None a none s l = λ r h. subst (λ (z : List Refusal). IsIn r z) none (a.complete r h)
 none_or_first text types items list (Some first) a none s l = record { offends = a.sound first s; least = λ other h. l other (a.complete other h) }
+
+-- ---- a loop over violations
+
+pub least_next : (list : List Refusal) (i : ℕ) (first : Option Refusal) (more chosen : Refusal) → i < length list → more ≡ get_or list i more → IsLeast (take i list) first → IfNone first (chosen ≡ more) → IfSome first (λ one. ((chosen ≡ more) × ComesBefore more one) ⊎ ((chosen ≡ one) × (ComesBefore more one → ⊥))) → IsLeast (take (i + 1) list) (Some chosen)
+least_next list i None more chosen h is l none some = subst (λ (z : Refusal). IsLeast (take (i + 1) list) (Some z)) (sym none) (least_one (take i list) (take (i + 1) list) more l (sym (taken_more list i more h is)))
+least_next list i (Some first) more chosen h is l none some = least_more (take i list) (take (i + 1) list) first more chosen l (sym (taken_more list i more h is)) some
+
+pub least_all : (list : List Refusal) (i : ℕ) (o : Option Refusal) → length list ≤ i → IsLeast (take i list) o → IsLeast list o
+least_all list i o h l = subst (λ (z : List Refusal). IsLeast z o) (taken_all list i h) l
+
+pub least_none : (list : List Refusal) (o : Option Refusal) → IsLeast list o → IfNone o (list ≡ [])
+least_none list None l = l
+least_none list (Some first) l = tt
+
+pub least_found : (list : List Refusal) (o : Option Refusal) → IsLeast list o → IfSome o (λ first. IsIn first list)
+least_found list None l = tt
+least_found list (Some first) l = l.0
+
+pub least_least : (list : List Refusal) (o : Option Refusal) → IsLeast list o → IfSome o (λ first. (other : Refusal) → IsIn other list → ComesBefore other first → ⊥)
+least_least list None l = tt
+least_least list (Some first) l = l.1

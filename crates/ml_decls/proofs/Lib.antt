@@ -3,6 +3,7 @@ pub mod Firsts
 pub mod Repeats
 pub mod Referring
 pub mod Rings
+pub mod Marks
 pub mod Whole
 pub mod Trees
 pub mod Finds

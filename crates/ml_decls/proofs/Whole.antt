@@ -1,5 +1,5 @@
 -- The list of violations has exactly the violations.
-use Rattle.std.proofs.Common.{◌≡◌, ℕ, ◌⊎◌, inl, inr, List, [], ◌∷◌, ◌++◌, map, refl, sym, ap, ◌∙◌, subst, append_assoc}
+use Rattle.std.proofs.Common.{◌≡◌, ℕ, ◌⊎◌, inl, inr, List, [], ◌∷◌, ◌++◌, map, None, refl, sym, ap, ◌∙◌, subst, append_assoc}
 use Rattle.oxml_base.specs.declared.span.Span.{Span}
 use Rattle.oxml_base.specs.declared.refusal.Refusal.{Refusal}
 use Rattle.oxml_base.specs.declared.rule.Rule.{Rule}
@@ -7,12 +7,13 @@ use Rattle.oxml_base.specs.declared.rule.Rule.TheVariants as rule
 use Rattle.ml_tree.specs.declared.types.Decl.{Decl}
 use Rattle.ml_tree.specs.declared.program.Item.{Item}
 use Rattle.ml_tree.specs.declared.reference.TyRef.{TyRef}
+use Rattle.ml_mentions.specs.declared.mentions.Mention.{Mention}
 use Rattle.ml_mentions.specs.declared.outline.Outline.{Outline}
 use Rattle.ml_mentions.specs.Lists.{all}
 use Rattle.ml_decls.specs.Lists.{IsIn}
-use Rattle.ml_mentions.specs.Programs.{declarations, type_names, constructor_names, field_names, body_constructors, body_fields, outline}
+use Rattle.ml_mentions.specs.Programs.{declarations, annotations, type_names, constructor_names, field_names, body_constructors, body_fields, outline}
 use Rattle.ml_decls.specs.Offences.{Violates, Offends, IsRepeated, IsDeclaredTwice}
-use Rattle.ml_decls.specs.Verdicts.{twice, all_twice, references, marked_from, ReportsCycles, IsAllOf}
+use Rattle.ml_decls.specs.Verdicts.{twice, all_twice, outline_counts, outline_verdicts, verdicts, references, marked_from, ReportsCycles, IsAllOf}
 use Rattle.ml_decls.proofs.Members.{in_left, in_right, in_either, violation}
 use Rattle.ml_decls.proofs.Referring.{references_sound, wrong_count_listed, unlisted_listed, Rule30, Rule31}
 use Rattle.ml_decls.proofs.Repeats.{repeated_sound, repeated_complete}
@@ -101,14 +102,35 @@ whole_complete text types items start list c rule.DeclaredTwice span v = in_name
 whole_complete text types items start list c rule.CyclicAbbreviation span v = in_marks text types items (marked_from c.marks 0 (map outline (declarations items))) (violation rule.CyclicAbbreviation span) (cyclic_complete types items c.marks span c.exact v)
 whole_complete text types items start list c _ span v = absurd v
 
+-- ---- what the parts add
+
+pub references_added : (types : List (ℕ × TyRef)) (os : List Outline) (items : List Item) (old middle new : List Refusal) (one other : List ℕ) (ms : List Mention) → one ≡ outline_counts os → other ≡ outline_counts os → ms ≡ annotations items → middle ≡ old ++ all (map (outline_verdicts types one) os) → new ≡ middle ++ verdicts types other None ms → new ≡ old ++ references types os items
+references_added types os items old middle new one other ms a b m e f =
+    let first : middle ≡ old ++ all (map (outline_verdicts types (outline_counts os)) os) = e ∙ ap (λ (z : List ℕ). old ++ all (map (outline_verdicts types z) os)) a in
+    f
+    ∙ ap (λ (z : List Refusal). z ++ verdicts types other None ms) first
+    ∙ ap (λ (z : List ℕ). old ++ all (map (outline_verdicts types (outline_counts os)) os) ++ verdicts types z None ms) b
+    ∙ ap (λ (z : List Mention). old ++ all (map (outline_verdicts types (outline_counts os)) os) ++ verdicts types (outline_counts os) None z) m
+    ∙ append_assoc old (all (map (outline_verdicts types (outline_counts os)) os)) (verdicts types (outline_counts os) None (annotations items))
+
+pub names_added : (text : List ℕ) (os : List Outline) (old first second new : List Refusal) (ts cs fs : List Span) → ts ≡ map (λ (o : Outline). o.name) os → cs ≡ all (map (λ (o : Outline). o.constructors) os) → fs ≡ all (map (λ (o : Outline). o.fields) os) → first ≡ old ++ twice text [] ts → second ≡ first ++ twice text [] cs → new ≡ second ++ twice text [] fs → new ≡ old ++ all_twice text os
+names_added text os old first second new ts cs fs t c f a b d =
+    d
+    ∙ ap (λ (z : List Refusal). z ++ twice text [] fs) (b ∙ ap (λ (z : List Refusal). z ++ twice text [] cs) a)
+    ∙ ap (λ (z : List Span). old ++ twice text [] z ++ twice text [] cs ++ twice text [] fs) t
+    ∙ ap (λ (z : List Span). old ++ twice text [] (map (λ (o : Outline). o.name) os) ++ twice text [] z ++ twice text [] fs) c
+    ∙ ap (λ (z : List Span). old ++ twice text [] (map (λ (o : Outline). o.name) os) ++ twice text [] (all (map (λ (o : Outline). o.constructors) os)) ++ twice text [] z) f
+    ∙ ap (λ (z : List Refusal). z ++ twice text [] (all (map (λ (o : Outline). o.fields) os))) (append_assoc old (twice text [] (map (λ (o : Outline). o.name) os)) (twice text [] (all (map (λ (o : Outline). o.constructors) os))))
+    ∙ append_assoc old (twice text [] (map (λ (o : Outline). o.name) os) ++ twice text [] (all (map (λ (o : Outline). o.constructors) os))) (twice text [] (all (map (λ (o : Outline). o.fields) os)))
+
 -- what the three parts add is all
-pub all_violations : (text : List ℕ) (types : List (ℕ × TyRef)) (items : List Item) (os : List Outline) (nothing first second list : List Refusal) → os ≡ map outline (declarations items) → nothing ≡ [] → first ≡ nothing ++ references types os items → second ≡ first ++ all_twice text os → ReportsCycles types os second list → IsAllOf text types items list
-all_violations text types items os nothing first second list eo en ef es c =
-    let os_is : ReportsCycles types (map outline (declarations items)) second list = subst (λ (z : List Outline). ReportsCycles types z second list) eo c in
-    let ef' : first ≡ references types (map outline (declarations items)) items = ef ∙ ap (λ z. z ++ references types os items) en ∙ ap (λ z. references types z items) eo in
-    let es' : second ≡ references types (map outline (declarations items)) items ++ named text (declarations items) = es ∙ ap (λ z. z ++ all_twice text os) ef' ∙ ap (λ z. references types (map outline (declarations items)) items ++ z) (ap (all_twice text) eo ∙ same_twice text (declarations items)) in
-    let is : list ≡ whole text types items (marked_from os_is.marks 0 (map outline (declarations items))) = os_is.added ∙ ap (λ z. z ++ marked_from os_is.marks 0 (map outline (declarations items))) es' in
+pub all_violations : (text : List ℕ) (types : List (ℕ × TyRef)) (items : List Item) (os1 os2 os3 : List Outline) (nothing first second list : List Refusal) → os1 ≡ map outline (declarations items) → os2 ≡ map outline (declarations items) → os3 ≡ map outline (declarations items) → nothing ≡ [] → first ≡ nothing ++ references types os1 items → second ≡ first ++ all_twice text os2 → ReportsCycles types os3 second list → IsAllOf text types items list
+all_violations text types items os1 os2 os3 nothing first second list e1 e2 e3 en ef es c =
+    let cycles : ReportsCycles types (map outline (declarations items)) second list = subst (λ (z : List Outline). ReportsCycles types z second list) e3 c in
+    let ef' : first ≡ references types (map outline (declarations items)) items = ef ∙ ap (λ (z : List Refusal). z ++ references types os1 items) en ∙ ap (λ (z : List Outline). references types z items) e1 in
+    let es' : second ≡ references types (map outline (declarations items)) items ++ named text (declarations items) = es ∙ ap (λ (z : List Refusal). z ++ all_twice text os2) ef' ∙ ap (λ (z : List Refusal). references types (map outline (declarations items)) items ++ z) (ap (all_twice text) e2 ∙ same_twice text (declarations items)) in
+    let is : list ≡ whole text types items (marked_from cycles.marks 0 (map outline (declarations items))) = cycles.added ∙ ap (λ (z : List Refusal). z ++ marked_from cycles.marks 0 (map outline (declarations items))) es' in
     record {
-      sound = λ r h. whole_sound text types items second list os_is r (subst (λ (z : List Refusal). IsIn r z) is h);
-      complete = λ r v. subst (λ (z : List Refusal). IsIn r z) (sym is) (whole_complete text types items second list os_is r.rule r.span v);
+      sound = λ r h. whole_sound text types items second list cycles r (subst (λ (z : List Refusal). IsIn r z) is h);
+      complete = λ r v. subst (λ (z : List Refusal). IsIn r z) (sym is) (whole_complete text types items second list cycles r.rule r.span v);
     }

@@ -1,5 +1,8 @@
+use Rattle.std.proofs.Common.{List, subst}
+use Rattle.oxml_base.specs.declared.refusal.Refusal.{Refusal}
+use Rattle.ml_decls.specs.Verdicts.{IsAllOf}
 use Rattle.ml_decls.proofs.Firsts.{none_or_first}
 use Rattle.ml_decls.proofs.checking.first_violation.Goals as goal
 
 pub returns : goal.returns
-returns c = none_or_first _ _ _ _ c.first_offence.result c.in_ok-list.ensures c.first_offence.ensures.none c.first_offence.ensures.found c.first_offence.ensures.least
+returns c = none_or_first _ _ _ c.as_slice.result.now c.first_offence.result (rw c.as_slice.ensures c.in_ok-list.ensures) c.first_offence.ensures.none c.first_offence.ensures.found c.first_offence.ensures.least
