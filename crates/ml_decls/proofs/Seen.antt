@@ -26,6 +26,10 @@ or_nothing : (a : Bool) → (a || false) ≡ a
 or_nothing true = refl
 or_nothing false = refl
 
+pub not_not : (b : Bool) → not (not b) ≡ b
+not_not true = refl
+not_not false = refl
+
 has_pushed : {K : Type 0} → (bytes : K → List ℕ) (ks : List K) (k : K) (other : List ℕ) → has bytes (ks ++ k ∷ []) other ≡ (has bytes ks other || bytes_eq other (bytes k))
 has_pushed bytes [] k other = or_nothing (bytes_eq other (bytes k))
 has_pushed bytes (x ∷ ks) k other = ap (λ b. bytes_eq other (bytes x) || b) (has_pushed bytes ks k other) ∙ sym (or_assoc (bytes_eq other (bytes x)) (has bytes ks other) (bytes_eq other (bytes k)))

@@ -90,8 +90,8 @@ fn note(seen: &mut IndexSet<Vec<u8>>, name: Vec<u8>) -> Result<bool, NoMemory>
     ensures was { IfOk result (λ was. was ≡ has (λ key. key.items) seen.old.keys name.items) }
     ensures now { OnOk result ((other : List ℕ) → has (λ key. key.items) seen.new.keys other ≡ (bytes_eq other name.items || has (λ key. key.items) seen.old.keys other)) }
 {
-    let (_, added) = seen.insert_full(name)?;
-    Ok(!added)
+    let entry = seen.insert_full(name)?;
+    Ok(!entry.1)
 }
 
 /// Adds a violation for each name of a list that stands in it before.

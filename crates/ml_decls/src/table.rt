@@ -52,6 +52,7 @@ impl Making {
     }
 
     /// One node more, which is no function type. The answer is its place.
+    #[tactic(auto, using(crate::proofs::Trees::before_pushed, crate::proofs::Trees::own_plain, crate::proofs::Trees::count_plain))]
     pub fn push(&mut self, node: TyNode) -> Result<TyId, NoMemory>
         requires plain { slot_of node ≡ [] }
         requires before { (k : ℕ) (p : TyId) → slice_get (parts_of node) k ≡ Some p → p.0 < length self.old.nodes }
@@ -64,6 +65,7 @@ impl Making {
     }
 
     /// A function type, with a slot of its own.
+    #[tactic(auto, using(crate::proofs::Trees::before_pushed, crate::proofs::Trees::own_arrow, crate::proofs::Trees::count_arrow))]
     fn push_arrow(&mut self, from: TyId, to: TyId) -> Result<TyId, NoMemory>
         requires from { from.0 < length self.old.nodes }
         requires to { to.0 < length self.old.nodes }
