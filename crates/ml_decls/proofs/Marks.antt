@@ -20,6 +20,7 @@ marked_step marks os i o place wrong now next start s h is w e = record { counte
   where
     is_wrong : wrong ≡ slice_index_or marks i false
     is_wrong = w ∙ ap (λ z. slice_index_or marks z false) s.counted
+
     rest' : next ++ marked_from marks (i + 1) (drop (i + 1) os) ≡ start ++ marked_from marks 0 os
     rest' =
         let tail : List Refusal = marked_from marks (suc i) (drop (i + 1) os) in

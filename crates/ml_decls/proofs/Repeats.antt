@@ -50,6 +50,7 @@ twice_sound text seen (first ∷ names) r h = by_side (λ u. twice_sound text (s
   where
     here : (is_seen seen (spelling text first) ≡ true) × (r ≡ violation DeclaredTwice first) → (r ≡ violation DeclaredTwice r.span) × Later text seen (first ∷ names) r.span
     here u = let s : r.span ≡ first = ap (λ (z : Refusal). z.span) u.1 in (u.1 ∙ ap (violation DeclaredTwice) (sym s), record { place = 0; stands = ap Some (sym s); before = was_seen (subst (λ (z : Span). is_seen seen (spelling text z) ≡ true) (sym s) u.0) })
+
     by_side : (IsIn r (twice text (spelling text first ∷ seen) names) → (r ≡ violation DeclaredTwice r.span) × Later text (spelling text first ∷ seen) names r.span) → IsIn r (where_wrong (is_seen seen (spelling text first)) DeclaredTwice first) ⊎ IsIn r (twice text (spelling text first ∷ seen) names) → (r ≡ violation DeclaredTwice r.span) × Later text seen (first ∷ names) r.span
     by_side rest (inl u) = here (from_where (is_seen seen (spelling text first)) DeclaredTwice first r u)
     by_side rest (inr u) = let l : (r ≡ violation DeclaredTwice r.span) × Later text (spelling text first ∷ seen) names r.span = rest u in (l.0, behind text seen first names r.span l.1)

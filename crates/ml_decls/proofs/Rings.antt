@@ -141,6 +141,7 @@ marked_sound marks first (o ∷ os) refusal h = by_side (λ u. marked_sound mark
         let s : refusal.span ≡ o.name = ap (λ (z : Refusal). z.span) u.1 in
         let n : first + 0 ≡ first = omega arith in
         (u.1 ∙ ap (violation CyclicAbbreviation) (sym s), record { place = 0; item = o; stands = refl; is = sym s; marked = ap (λ z. slice_index_or marks z false) n ∙ u.0 })
+
     by_side : (IsIn refusal (marked_from marks (suc first) os) → (refusal ≡ violation CyclicAbbreviation refusal.span) × Marked marks (suc first) os refusal.span) → IsIn refusal (where_wrong (slice_index_or marks first false) CyclicAbbreviation o.name) ⊎ IsIn refusal (marked_from marks (suc first) os) → (refusal ≡ violation CyclicAbbreviation refusal.span) × Marked marks first (o ∷ os) refusal.span
     by_side rest (inl u) = here (from_where (slice_index_or marks first false) CyclicAbbreviation o.name refusal u)
     by_side rest (inr u) =

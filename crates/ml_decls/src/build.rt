@@ -4,9 +4,9 @@ ghost use Rattle.ml_mentions.specs.Programs.{declarations};
 ghost use Rattle.ml_decls.specs.Said.{written, said_arg, said_con, said_field, said};
 ghost use Rattle.ml_decls.specs.Tables.{Each, ArgSays, ConSays, FieldSays, Says, Grows, Adds, Declares};
 
-use ml_mentions::item_declarations;
 use crate::predefined::predefined;
 use crate::table::{Making, count, push_arg, push_type};
+use ml_mentions::item_declarations;
 use ml_tree::{Arg, ConDecl, ConName, Decl, DeclBody, FieldDecl, Item, Scoped, TyExpr};
 use ml_types::{ArgInfo, ConInfo, DeclInfo, Decls, FieldInfo, TyTable};
 use oxml_base::{Items, NoMemory, Span};

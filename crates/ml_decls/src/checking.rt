@@ -6,10 +6,10 @@ ghost use Rattle.ml_decls.specs.Answers.{IsChecked, Explains};
 
 use crate::build::declare;
 use crate::cycles::report_cycles;
-use ml_mentions::{Outline, annotations, outlines};
 use crate::names::report_names;
 use crate::offences::first_offence;
 use crate::references::{report_mentions, report_outlines, variable_counts};
+use ml_mentions::{Outline, annotations, outlines};
 use ml_tree::{Item, Scoped};
 use ml_types::{Decls, TyTable};
 use oxml_base::{Items, NoMemory, Refusal};

@@ -3,11 +3,10 @@ ghost use Rattle.std.specs.Prelude.{◌≡◌, ◌++◌, map, slice_index_or, fa
 ghost use Rattle.ml_mentions.specs.Lists.{all};
 ghost use Rattle.ml_decls.specs.Verdicts.{written_number, target, targets, marked_from, ReportsCycles};
 
-use ml_mentions::Mention;
 use crate::offences::offence_where;
-use ml_mentions::Outline;
 use crate::references::target;
 use graph_cycles::on_cycles;
+use ml_mentions::{Mention, Outline};
 use ml_tree::{Scoped, TyRef};
 use oxml_base::{Items, NoMemory, Refusal, Rule};
 use std::alloc::Global;

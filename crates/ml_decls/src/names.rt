@@ -7,8 +7,8 @@ ghost use Rattle.ml_decls.specs.Offences.{spelling};
 ghost use Rattle.ml_decls.specs.Verdicts.{has, twice, all_twice};
 
 use crate::offences::offence_where;
-use ml_mentions::Outline;
 use indexmap::IndexSet;
+use ml_mentions::Outline;
 use oxml_base::{Items, NoMemory, Refusal, Rule, Span};
 use std::alloc::Global;
 

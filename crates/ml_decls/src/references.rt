@@ -5,9 +5,8 @@ ghost use Rattle.ml_mentions.specs.Lists.{all};
 ghost use Rattle.ml_decls.specs.Lists.{find};
 ghost use Rattle.ml_decls.specs.Verdicts.{outline_counts, differs, miscounts, is_unlisted, verdict, verdicts, outline_verdicts};
 
-use ml_mentions::Mention;
 use crate::offences::offence_where;
-use ml_mentions::Outline;
+use ml_mentions::{Mention, Outline};
 use ml_tree::{Scoped, TyRef};
 use oxml_base::{Items, NoMemory, Refusal, Rule};
 use sqlite_items::at;
