@@ -1,0 +1,120 @@
+//! Nodes of types, their parts and their slots.
+ghost use Rattle.std.specs.Prelude.{◌≡◌, ℕ, ◌<◌, length, IfOk, IsTrue, slice_get, Some};
+ghost use Rattle.ml_types.specs.declared.node.TyId.{TyId};
+ghost use Rattle.ml_types.specs.Types.{parts_of};
+ghost use Rattle.hm_unify.specs.States.{PartsWithin};
+ghost use Rattle.hm_unify.specs.Closing.{PairsWithin};
+
+use ml_types::{TyId, TyNode, TyTable};
+use oxml_base::{Items, NoMemory};
+use std::alloc::Global;
+
+/// Whether all ids of a list are among the first `count`.
+fn all_within(parts: &[TyId], count: u64) -> bool
+    ensures { IsTrue result → (i : ℕ) (p : TyId) → slice_get parts.now i ≡ Some p → p.0 < count }
+{
+    for part in parts {
+        if part.0 as u64 >= count {
+            return false;
+        }
+    }
+    true
+}
+
+/// Whether the parts of a node are among the first `count` ids.
+pub fn parts_within(node: &TyNode, count: u64) -> bool
+    ensures { IsTrue result → PartsWithin count node.now }
+{
+    match node {
+        TyNode::Var(_) => true,
+        TyNode::Con(_, parts) => all_within(parts.as_slice(), count),
+        TyNode::Tuple(parts) => all_within(parts.as_slice(), count),
+        TyNode::Arrow { slot: _, from, to } => { (from.0 as u64) < count && (to.0 as u64) < count }
+    }
+}
+
+/// Whether the ids of pairs are among the first `count`.
+pub fn pairs_within(pairs: &[(TyId, TyId)], count: u64) -> bool
+    ensures { IsTrue result → PairsWithin count pairs.now }
+{
+    for pair in pairs {
+        if pair.0.0 as u64 >= count || pair.1.0 as u64 >= count {
+            return false;
+        }
+    }
+    true
+}
+
+/// The part of a node at this place, counted from 0; `None` past the last.
+pub fn part(node: &TyNode, at: usize) -> Option<TyId>
+    ensures { result ≡ slice_get (parts_of node.now) at }
+{
+    match node {
+        TyNode::Var(_) => None,
+        TyNode::Con(_, parts) => parts.get(at).copied(),
+        TyNode::Tuple(parts) => parts.get(at).copied(),
+        TyNode::Arrow { from, to, .. } => match at {
+            0 => Some(*from),
+            1 => Some(*to),
+            _ => None,
+        },
+    }
+}
+
+/// How many parts a node has.
+pub fn part_count(node: &TyNode) -> usize {
+    match node {
+        TyNode::Var(_) => 0,
+        TyNode::Con(_, parts) => parts.len(),
+        TyNode::Tuple(parts) => parts.len(),
+        TyNode::Arrow { .. } => 2,
+    }
+}
+
+/// A node equal to another.
+fn copy_of(alloc: Global, node: &TyNode) -> Result<TyNode, NoMemory>
+    ensures { IfOk result (λ n. n ≡ node.now) }
+{
+    Ok(match node {
+        TyNode::Var(number) => TyNode::Var(*number),
+        TyNode::Con(declaration, parts) => {
+            TyNode::Con(*declaration, Items::from_slice(alloc, parts.as_slice())?)
+        }
+        TyNode::Tuple(parts) => TyNode::Tuple(Items::from_slice(alloc, parts.as_slice())?),
+        TyNode::Arrow { slot, from, to } => TyNode::Arrow {
+            slot: *slot,
+            from: *from,
+            to: *to,
+        },
+    })
+}
+
+/// A table equal to another.
+pub fn copy_table(alloc: Global, table: &TyTable) -> Result<TyTable, NoMemory>
+    ensures { IfOk result (λ t. t.nodes ≡ table.now.nodes) }
+{
+    let mut nodes = Items::new(alloc);
+    let list = table.nodes.as_slice();
+    for node in list {
+        let copy = copy_of(alloc, node)?;
+        nodes.push(copy)?;
+    }
+    Ok(TyTable { nodes })
+}
+
+/// The slot of a node, and the next.
+fn slot_behind(node: &TyNode) -> u32 {
+    match node {
+        TyNode::Arrow { slot, .. } => slot.saturating_add(1),
+        _ => 0,
+    }
+}
+
+/// The first slot above those of a table's arrows.
+pub fn slots_of(table: &TyTable) -> u32 {
+    let mut slots = 0u32;
+    for node in table.nodes.as_slice() {
+        slots = slots.max(slot_behind(node));
+    }
+    slots
+}
