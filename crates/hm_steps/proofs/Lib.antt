@@ -1,5 +1,9 @@
+pub mod Binders
 pub mod ExpressionLayers
+pub mod ExpressionParts
 pub mod Lists
 pub mod Lookups
 pub mod PatternLayers
+pub mod PatternParts
+pub mod Rows
 pub mod Walks

@@ -31,6 +31,7 @@ fn all_binders(alloc: Global, list: &[Bind]) -> Result<Items<u32>, NoMemory>
 }
 
 /// Appends the numbers of the nodes of a pattern that bind a name.
+#[tactic(none)]
 #[cycle(binders)]
 fn binders(q: &Pat, numbers: &mut Items<u32>) -> Result<(), NoMemory>
     ensures { OnOk result (numbers.new ≡ numbers.old ++ binders q.now) }

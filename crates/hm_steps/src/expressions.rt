@@ -17,6 +17,7 @@ use oxml_base::{Items, NoMemory, Span};
 use std::alloc::Global;
 
 /// Appends the steps of an expression.
+#[tactic(none)]
 #[cycle(expressions)]
 pub fn expression(
     alloc: Global,
@@ -39,6 +40,7 @@ pub fn expression(
 }
 
 /// Appends the steps of the parts of an expression.
+#[tactic(none)]
 #[cycle(expressions)]
 fn parts(
     alloc: Global,
@@ -210,6 +212,7 @@ fn fields(
     Ok(())
 }
 
+#[tactic(none)]
 #[cycle(expressions)]
 fn field(
     alloc: Global,
@@ -242,6 +245,7 @@ fn arms(
     Ok(())
 }
 
+#[tactic(none)]
 #[cycle(expressions)]
 fn arm(
     alloc: Global,
@@ -259,6 +263,7 @@ fn arm(
     Ok(())
 }
 
+#[tactic(none)]
 #[cycle(expressions)]
 fn guard(
     alloc: Global,
@@ -296,6 +301,7 @@ pub fn binds(
 }
 
 /// Appends the steps of a bind, its own behind those of its parts.
+#[tactic(none)]
 #[cycle(expressions)]
 fn bind(
     alloc: Global,

@@ -34,6 +34,7 @@ pub fn push(
 
 /// Appends the steps of a pattern. The top pattern of an arm has, behind its own equations, the type
 /// of the scrutinee.
+#[tactic(none)]
 #[cycle(patterns)]
 pub fn pattern(
     alloc: Global,
@@ -66,6 +67,7 @@ fn with_scrutinee(
 }
 
 /// Appends the steps of the parts of a pattern.
+#[tactic(none)]
 #[cycle(patterns)]
 fn parts(
     alloc: Global,
@@ -159,6 +161,7 @@ fn fields(
     Ok(())
 }
 
+#[tactic(none)]
 #[cycle(patterns)]
 fn field(
     alloc: Global,
