@@ -1,3 +1,4 @@
+pub mod Arguments
 pub mod Binders
 pub mod ExpressionLayers
 pub mod ExpressionParts

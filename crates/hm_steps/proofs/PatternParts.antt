@@ -1,5 +1,5 @@
 -- The steps of the parts of a pattern, kind by kind.
-use Rattle.std.proofs.Common.{◌≡◌, ℕ, ℤ, Bool, List, ◌++◌, map, Some, None}
+use Rattle.std.proofs.Common.{◌≡◌, ℕ, ℤ, Bool, List, ◌++◌, map, Option, Some, None, sym, ap, ◌∙◌}
 use Rattle.oxml_base.specs.declared.span.Span.{Span}
 use Rattle.oxml_base.specs.declared.literal.Lit.{Lit}
 use Rattle.ml_tree.specs.declared.words.Words.{Words}
@@ -15,35 +15,35 @@ use Rattle.ml_typing.specs.Rows.{pattern, pattern_kind, field_pattern, field_par
 use Rattle.hm_steps.proofs.PatternLayers as L
 use Rattle.hm_steps.proofs.Walks.{two, nothing, of_kind}
 
-pub con : (names : Names) (kind : PatKind) (name : ConName) (q : Pat) (n : ℕ) (old new : List Step) → kind ≡ P.Con name (Some q) → new ≡ old ++ steps_of (pattern names q) → new ≡ old ++ (pattern_kind names kind).before n
-con names kind name q n old new is e = of_kind (pattern_kind names) kind _ _ n old new is (L.con names name q) e
+pub con : (names : Names) (kind : PatKind) (name : ConName) (q : Pat) (q' : Pat) (arg : Option Pat) (n : ℕ) (old new : List Step) → kind ≡ P.Con name arg → arg ≡ Some q → q' ≡ q → new ≡ old ++ steps_of (pattern names q') → new ≡ old ++ (pattern_kind names kind).before n
+con names kind name q q' arg n old new is some same_q e = of_kind (pattern_kind names) kind _ _ n old new (is ∙ ap (λ z. P.Con name z) some) (L.con names name q) (e ∙ ap (λ z. old ++ steps_of (pattern names z)) same_q)
 
-pub cons : (names : Names) (kind : PatKind) (q u : Pat) (n : ℕ) (old mid new : List Step) → kind ≡ P.Cons q u → mid ≡ old ++ steps_of (pattern names q) → new ≡ mid ++ steps_of (pattern names u) → new ≡ old ++ (pattern_kind names kind).before n
-cons names kind q u n old mid new is e f = of_kind (pattern_kind names) kind _ _ n old new is (L.cons names q u) (two old mid new _ _ e f)
+pub con_alone : (names : Names) (kind : PatKind) (name : ConName) (arg : Option Pat) (n : ℕ) (old : List Step) → kind ≡ P.Con name arg → arg ≡ None → old ≡ old ++ (pattern_kind names kind).before n
+con_alone names kind name arg n old is none = of_kind (pattern_kind names) kind _ _ n old old (is ∙ ap (λ z. P.Con name z) none) (L.con_alone names name) (nothing old)
 
-pub tuple : (names : Names) (kind : PatKind) (qs : List Pat) (n : ℕ) (old new : List Step) → kind ≡ P.Tuple qs → new ≡ old ++ all_steps (map (pattern names) qs) → new ≡ old ++ (pattern_kind names kind).before n
-tuple names kind qs n old new is e = of_kind (pattern_kind names) kind _ _ n old new is (L.tuple names qs) e
+pub cons : (names : Names) (kind : PatKind) (q u : Pat) (q' : Pat) (u' : Pat) (n : ℕ) (old mid new : List Step) → kind ≡ P.Cons q u → q' ≡ q → u' ≡ u → mid ≡ old ++ steps_of (pattern names q') → new ≡ mid ++ steps_of (pattern names u') → new ≡ old ++ (pattern_kind names kind).before n
+cons names kind q u q' u' n old mid new is same_q same_u e f = of_kind (pattern_kind names) kind _ _ n old new is (L.cons names q u) (two old mid new _ _ (e ∙ ap (λ z. old ++ steps_of (pattern names z)) same_q) (f ∙ ap (λ z. mid ++ steps_of (pattern names z)) same_u))
 
-pub list : (names : Names) (kind : PatKind) (qs : List Pat) (n : ℕ) (old new : List Step) → kind ≡ P.List qs → new ≡ old ++ all_steps (map (pattern names) qs) → new ≡ old ++ (pattern_kind names kind).before n
-list names kind qs n old new is e = of_kind (pattern_kind names) kind _ _ n old new is (L.list names qs) e
+pub tuple : (names : Names) (kind : PatKind) (qs : List Pat) (qs' : List Pat) (n : ℕ) (old new : List Step) → kind ≡ P.Tuple qs → qs' ≡ qs → new ≡ old ++ all_steps (map (pattern names) qs') → new ≡ old ++ (pattern_kind names kind).before n
+tuple names kind qs qs' n old new is same_qs e = of_kind (pattern_kind names) kind _ _ n old new is (L.tuple names qs) (e ∙ ap (λ z. old ++ all_steps (map (pattern names) z)) same_qs)
 
-pub fields : (names : Names) (kind : PatKind) (fs : List FieldPat) (rest : Bool) (n : ℕ) (old new : List Step) → kind ≡ P.Fields fs rest → new ≡ old ++ all_steps (field_parts (map (field_pattern names) fs)) → new ≡ old ++ (pattern_kind names kind).before n
-fields names kind fs rest n old new is e = of_kind (pattern_kind names) kind _ _ n old new is (L.fields names fs rest) e
+pub list : (names : Names) (kind : PatKind) (qs : List Pat) (qs' : List Pat) (n : ℕ) (old new : List Step) → kind ≡ P.List qs → qs' ≡ qs → new ≡ old ++ all_steps (map (pattern names) qs') → new ≡ old ++ (pattern_kind names kind).before n
+list names kind qs qs' n old new is same_qs e = of_kind (pattern_kind names) kind _ _ n old new is (L.list names qs) (e ∙ ap (λ z. old ++ all_steps (map (pattern names) z)) same_qs)
 
-pub either : (names : Names) (kind : PatKind) (q u : Pat) (n : ℕ) (old mid new : List Step) → kind ≡ P.Or q u → mid ≡ old ++ steps_of (pattern names q) → new ≡ mid ++ steps_of (pattern names u) → new ≡ old ++ (pattern_kind names kind).before n
-either names kind q u n old mid new is e f = of_kind (pattern_kind names) kind _ _ n old new is (L.either names q u) (two old mid new _ _ e f)
+pub fields : (names : Names) (kind : PatKind) (fs : List FieldPat) (rest : Bool) (fs' : List FieldPat) (n : ℕ) (old new : List Step) → kind ≡ P.Fields fs rest → fs' ≡ fs → new ≡ old ++ all_steps (field_parts (map (field_pattern names) fs')) → new ≡ old ++ (pattern_kind names kind).before n
+fields names kind fs rest fs' n old new is same_fs e = of_kind (pattern_kind names) kind _ _ n old new is (L.fields names fs rest) (e ∙ ap (λ z. old ++ all_steps (field_parts (map (field_pattern names) z))) same_fs)
 
-pub named : (names : Names) (kind : PatKind) (q : Pat) (name : Span) (n : ℕ) (old new : List Step) → kind ≡ P.Named q name → new ≡ old ++ steps_of (pattern names q) → new ≡ old ++ (pattern_kind names kind).before n
-named names kind q name n old new is e = of_kind (pattern_kind names) kind _ _ n old new is (L.named names q name) e
+pub either : (names : Names) (kind : PatKind) (q u : Pat) (q' : Pat) (u' : Pat) (n : ℕ) (old mid new : List Step) → kind ≡ P.Or q u → q' ≡ q → u' ≡ u → mid ≡ old ++ steps_of (pattern names q') → new ≡ mid ++ steps_of (pattern names u') → new ≡ old ++ (pattern_kind names kind).before n
+either names kind q u q' u' n old mid new is same_q same_u e f = of_kind (pattern_kind names) kind _ _ n old new is (L.either names q u) (two old mid new _ _ (e ∙ ap (λ z. old ++ steps_of (pattern names z)) same_q) (f ∙ ap (λ z. mid ++ steps_of (pattern names z)) same_u))
 
-pub typed : (names : Names) (kind : PatKind) (q : Pat) (ty : TyExpr) (n : ℕ) (old new : List Step) → kind ≡ P.Typed q ty → new ≡ old ++ steps_of (pattern names q) → new ≡ old ++ (pattern_kind names kind).before n
-typed names kind q ty n old new is e = of_kind (pattern_kind names) kind _ _ n old new is (L.typed names q ty) e
+pub named : (names : Names) (kind : PatKind) (q : Pat) (name : Span) (q' : Pat) (n : ℕ) (old new : List Step) → kind ≡ P.Named q name → q' ≡ q → new ≡ old ++ steps_of (pattern names q') → new ≡ old ++ (pattern_kind names kind).before n
+named names kind q name q' n old new is same_q e = of_kind (pattern_kind names) kind _ _ n old new is (L.named names q name) (e ∙ ap (λ z. old ++ steps_of (pattern names z)) same_q)
 
-pub paren : (names : Names) (kind : PatKind) (q : Pat) (n : ℕ) (old new : List Step) → kind ≡ P.Paren q → new ≡ old ++ steps_of (pattern names q) → new ≡ old ++ (pattern_kind names kind).before n
-paren names kind q n old new is e = of_kind (pattern_kind names) kind _ _ n old new is (L.paren names q) e
+pub typed : (names : Names) (kind : PatKind) (q : Pat) (ty : TyExpr) (q' : Pat) (n : ℕ) (old new : List Step) → kind ≡ P.Typed q ty → q' ≡ q → new ≡ old ++ steps_of (pattern names q') → new ≡ old ++ (pattern_kind names kind).before n
+typed names kind q ty q' n old new is same_q e = of_kind (pattern_kind names) kind _ _ n old new is (L.typed names q ty) (e ∙ ap (λ z. old ++ steps_of (pattern names z)) same_q)
 
-pub con_alone : (names : Names) (kind : PatKind) (name : ConName) (n : ℕ) (old : List Step) → kind ≡ P.Con name None → old ≡ old ++ (pattern_kind names kind).before n
-con_alone names kind name n old is = of_kind (pattern_kind names) kind _ _ n old old is (L.con_alone names name) (nothing old)
+pub paren : (names : Names) (kind : PatKind) (q : Pat) (q' : Pat) (n : ℕ) (old new : List Step) → kind ≡ P.Paren q → q' ≡ q → new ≡ old ++ steps_of (pattern names q') → new ≡ old ++ (pattern_kind names kind).before n
+paren names kind q q' n old new is same_q e = of_kind (pattern_kind names) kind _ _ n old new is (L.paren names q) (e ∙ ap (λ z. old ++ steps_of (pattern names z)) same_q)
 
 pub any : (names : Names) (kind : PatKind) (n : ℕ) (old : List Step) → kind ≡ P.Any → old ≡ old ++ (pattern_kind names kind).before n
 any names kind n old is = of_kind (pattern_kind names) kind _ _ n old old is (L.any names) (nothing old)

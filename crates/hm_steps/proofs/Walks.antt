@@ -104,8 +104,8 @@ bind_walk names b old m k l new es e f g is grown =
     let part : BindPart = record { pat = pattern names q; params = param_parts names (out-Bind b).params; result = result_term names (out-Bind b).result; body = expression names x } in
     let all : es ≡ (bind_step part).equations = is ∙ ap (λ (z : BindPart). (bind_step z).equations) (E.of_bind names b) in
     let own : new ≡ l ++ bind_step part ∷ [] =
-        grown ∙ (ap (λ z. l ++ bind_of (out-Pat q).span (out-Expr x).span z ∷ []) all
-        ∙ (ap (λ z. l ++ bind_of z (out-Expr x).span (bind_step part).equations ∷ []) (sym (P.whole_span names q))
-        ∙ ap (λ z. l ++ bind_of (pattern names q).span z (bind_step part).equations ∷ []) (sym (E.whole_span names x)))) in
+    grown ∙ (ap (λ z. l ++ bind_of (out-Pat q).span (out-Expr x).span z ∷ []) all
+    ∙ (ap (λ z. l ++ bind_of z (out-Expr x).span (bind_step part).equations ∷ []) (sym (P.whole_span names q))
+    ∙ ap (λ z. l ++ bind_of (pattern names q).span z (bind_step part).equations ∷ []) (sym (E.whole_span names x)))) in
     four old m k l new (steps_of part.pat) (all_steps part.params) (steps_of part.body) (bind_step part ∷ []) e f g own
     ∙ ap (λ (z : BindPart). old ++ bind_steps z) (sym (E.of_bind names b))

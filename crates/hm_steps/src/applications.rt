@@ -16,7 +16,6 @@ use std::alloc::Global;
 
 /// The function's type is an arrow from one type for each argument to the node's type; then each
 /// argument has its type.
-#[tactic(none)]
 pub fn apply_row(
     alloc: Global,
     n: u32,

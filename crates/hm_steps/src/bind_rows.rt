@@ -14,7 +14,6 @@ use sqlite_items::{Boxed, at};
 use std::alloc::Global;
 
 /// The bound value has its pattern's type; then the body has the type of a result annotation.
-#[tactic(none)]
 pub fn bind_row(
     alloc: Global,
     s: &Scoped,
@@ -43,7 +42,6 @@ pub fn bind_row(
 }
 
 /// The span of a bound value, from the first parameter where there is one.
-#[tactic(none)]
 fn value_span(binding: &Bind) -> Span
     ensures { (names : Names) → result ≡ value_span (param_parts names binding.now.params) (expression names binding.now.body) }
 {

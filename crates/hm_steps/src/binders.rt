@@ -31,7 +31,6 @@ fn all_binders(alloc: Global, list: &[Bind]) -> Result<Items<u32>, NoMemory>
 }
 
 /// Appends the numbers of the nodes of a pattern that bind a name.
-#[tactic(none)]
 #[cycle(binders)]
 fn binders(q: &Pat, numbers: &mut Items<u32>) -> Result<(), NoMemory>
     ensures { OnOk result (numbers.new ≡ numbers.old ++ binders q.now) }
@@ -83,11 +82,11 @@ fn binders(q: &Pat, numbers: &mut Items<u32>) -> Result<(), NoMemory>
             binders(inner.get(), numbers)?;
             Ok(())
         }
-        PatKind::Con { name: _, arg: None }
-        | PatKind::Any
-        | PatKind::Int(_)
-        | PatKind::Char(_)
-        | PatKind::Text(_) => Ok(()),
+        PatKind::Con { name: _, arg: None } => Ok(()),
+        PatKind::Any => Ok(()),
+        PatKind::Int(_) => Ok(()),
+        PatKind::Char(_) => Ok(()),
+        PatKind::Text(_) => Ok(()),
     }
 }
 

@@ -36,7 +36,6 @@ pub fn compared(n: u32, kind: &ExprKind) -> Option<Unknown>
 
 /// The equations of the row of an expression's node, by its number, its span and its kind. Where the
 /// node's own type is new it comes first, so that it is never what fails.
-#[tactic(none)]
 pub fn row(
     alloc: Global,
     s: &Scoped,
@@ -226,7 +225,6 @@ fn binary_row(
 }
 
 /// The last part has the node's type.
-#[tactic(none)]
 fn last_is(alloc: Global, n: u32, list: &[Expr]) -> Result<Items<Equation>, NoMemory>
     ensures { IfOk result (λ es. (names : Names) → es ≡ last_is n (map (expression names) list.now)) }
 {

@@ -17,7 +17,6 @@ use oxml_base::{Items, NoMemory, Span};
 use std::alloc::Global;
 
 /// Appends the steps of an expression.
-#[tactic(none)]
 #[cycle(expressions)]
 pub fn expression(
     alloc: Global,
@@ -40,7 +39,6 @@ pub fn expression(
 }
 
 /// Appends the steps of the parts of an expression.
-#[tactic(none)]
 #[cycle(expressions)]
 fn parts(
     alloc: Global,
@@ -171,12 +169,12 @@ fn parts(
             expression(alloc, s, item, inner.get(), steps)?;
             Ok(())
         }
-        ExprKind::Con { name: _, arg: None }
-        | ExprKind::Int(_)
-        | ExprKind::Char(_)
-        | ExprKind::Text(_)
-        | ExprKind::Name(_)
-        | ExprKind::Path(_, _) => Ok(()),
+        ExprKind::Con { name: _, arg: None } => Ok(()),
+        ExprKind::Int(_) => Ok(()),
+        ExprKind::Char(_) => Ok(()),
+        ExprKind::Text(_) => Ok(()),
+        ExprKind::Name(_) => Ok(()),
+        ExprKind::Path(_, _) => Ok(()),
     }
 }
 
@@ -212,7 +210,6 @@ fn fields(
     Ok(())
 }
 
-#[tactic(none)]
 #[cycle(expressions)]
 fn field(
     alloc: Global,
@@ -245,7 +242,6 @@ fn arms(
     Ok(())
 }
 
-#[tactic(none)]
 #[cycle(expressions)]
 fn arm(
     alloc: Global,
@@ -263,7 +259,6 @@ fn arm(
     Ok(())
 }
 
-#[tactic(none)]
 #[cycle(expressions)]
 fn guard(
     alloc: Global,
@@ -301,7 +296,6 @@ pub fn binds(
 }
 
 /// Appends the steps of a bind, its own behind those of its parts.
-#[tactic(none)]
 #[cycle(expressions)]
 fn bind(
     alloc: Global,

@@ -32,7 +32,6 @@ pub fn arms_are(
     Ok(all)
 }
 
-#[tactic(none)]
 fn arm_is(
     list: Items<Equation>,
     alloc: Global,
@@ -45,7 +44,6 @@ fn arm_is(
     part_is(guarded, &one.body, Term::Of(whole))
 }
 
-#[tactic(none)]
 fn guard_is(
     list: Items<Equation>,
     alloc: Global,
@@ -60,7 +58,6 @@ fn guard_is(
 }
 
 /// A function of one parameter that is matched: its type, then the guards and bodies of its arms.
-#[tactic(none)]
 pub fn function_row(
     alloc: Global,
     n: u32,

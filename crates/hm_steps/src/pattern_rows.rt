@@ -17,7 +17,6 @@ use std::alloc::Global;
 
 /// The equations of the row of a pattern's node, by its number, its span and its kind. The node's own
 /// type comes first; it is new there, so that it is never what fails.
-#[tactic(none)]
 pub fn row(
     alloc: Global,
     s: &Scoped,

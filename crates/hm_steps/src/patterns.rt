@@ -34,7 +34,6 @@ pub fn push(
 
 /// Appends the steps of a pattern. The top pattern of an arm has, behind its own equations, the type
 /// of the scrutinee.
-#[tactic(none)]
 #[cycle(patterns)]
 pub fn pattern(
     alloc: Global,
@@ -67,7 +66,6 @@ fn with_scrutinee(
 }
 
 /// Appends the steps of the parts of a pattern.
-#[tactic(none)]
 #[cycle(patterns)]
 fn parts(
     alloc: Global,
@@ -120,12 +118,12 @@ fn parts(
             pattern(alloc, s, item, inner.get(), None, steps)?;
             Ok(())
         }
-        PatKind::Con { name: _, arg: None }
-        | PatKind::Any
-        | PatKind::Name(_, _)
-        | PatKind::Int(_)
-        | PatKind::Char(_)
-        | PatKind::Text(_) => Ok(()),
+        PatKind::Con { name: _, arg: None } => Ok(()),
+        PatKind::Any => Ok(()),
+        PatKind::Name(_, _) => Ok(()),
+        PatKind::Int(_) => Ok(()),
+        PatKind::Char(_) => Ok(()),
+        PatKind::Text(_) => Ok(()),
     }
 }
 
@@ -161,7 +159,6 @@ fn fields(
     Ok(())
 }
 
-#[tactic(none)]
 #[cycle(patterns)]
 fn field(
     alloc: Global,
