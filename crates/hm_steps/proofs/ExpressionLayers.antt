@@ -137,3 +137,10 @@ of_arm names a = fold_out-Arm Row ArmPart BindPart Part FieldPart (expr_row name
 
 pub of_bind : (names : Names) (b : Bind) → bind names b ≡ record { pat = pattern names (out-Bind b).pat; params = param_parts names (out-Bind b).params; result = result_term names (out-Bind b).result; body = expression names (out-Bind b).body }
 of_bind names b = fold_out-Bind Row ArmPart BindPart Part FieldPart (expr_row names) (arm_part names) (bind_part names) expr_whole expr_field b
+
+-- a constructor, or a condition, whose last part is known by another name
+pub con_at : (kind : ExprKind) (name : ConName) (arg other : Option Expr) → kind ≡ E.Con name arg → arg ≡ other → kind ≡ E.Con name other
+con_at kind name arg other is same = is ∙ ap (λ z. E.Con name z) same
+
+pub if_at : (kind : ExprKind) (x y : Expr) (arg other : Option Expr) → kind ≡ E.If x y arg → arg ≡ other → kind ≡ E.If x y other
+if_at kind x y arg other is same = is ∙ ap (λ z. E.If x y z) same

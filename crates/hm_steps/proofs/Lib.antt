@@ -2,6 +2,7 @@ pub mod Arguments
 pub mod Binders
 pub mod ExpressionLayers
 pub mod ExpressionParts
+pub mod Items
 pub mod Lists
 pub mod Lookups
 pub mod PatternLayers

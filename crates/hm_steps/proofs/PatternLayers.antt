@@ -86,7 +86,7 @@ is_field names n f right old new e h =
     h ∙ ap (λ z. old ++ z ∷ []) (is_node names q right ∙ (ap (node_is (pattern names q)) e ∙ ap (field_is names n) (sym (of_field names f))))
 
 -- a pattern is no comparison
-none_compared : (names : Names) (x : PatKind-F Row FieldPart Part) (n : ℕ) → (pattern_row names x).compared n ≡ None
+pub none_compared : (names : Names) (x : PatKind-F Row FieldPart Part) (n : ℕ) → (pattern_row names x).compared n ≡ None
 none_compared names p.Any n = refl
 none_compared names (p.Name words span) n = refl
 none_compared names (p.Int value) n = refl
@@ -101,3 +101,7 @@ none_compared names (p.Or q u) n = refl
 none_compared names (p.Named q name) n = refl
 none_compared names (p.Typed q ty) n = refl
 none_compared names (p.Paren q) n = refl
+
+-- a constructor whose argument is known by another name
+pub con_at : (kind : PatKind) (name : ConName) (arg other : Option Pat) → kind ≡ P.Con name arg → arg ≡ other → kind ≡ P.Con name other
+con_at kind name arg other is same = is ∙ ap (λ z. P.Con name z) same

@@ -1,5 +1,5 @@
 -- The equations of a row from those that the code lists.
-use Rattle.std.proofs.Common.{◌≡◌, ℕ, List, [], ◌∷◌, ◌++◌, Result, Ok, Err, IfOk, Option, Some, None, map, slice_get, refl, sym, ap, ◌∙◌}
+use Rattle.std.proofs.Common.{◌≡◌, ℕ, suc, ◌-◌, List, [], ◌∷◌, ◌++◌, length, Result, Ok, Err, IfOk, Option, Some, None, map, slice_get, refl, sym, ap, ◌∙◌, arith}
 use Rattle.std.specs.Option.{option_map}
 use Rattle.std.proofs.lemmas.List.{append-nil}
 use Rattle.oxml_base.specs.declared.span.Span.{Span}
@@ -9,6 +9,7 @@ use Rattle.ml_tree.specs.declared.pattern.Pat.{Pat, out-Pat}
 use Rattle.ml_tree.specs.declared.expr.Arm.{Arm, out-Arm}
 use Rattle.ml_tree.specs.declared.expr.Bind.{Bind, out-Bind}
 use Rattle.ml_tree.specs.declared.expr.Expr.{Expr, out-Expr}
+use Rattle.ml_typing.specs.declared.equation.Unknown.{Unknown}
 use Rattle.ml_typing.specs.declared.equation.Unknown.TheVariants.{Node}
 use Rattle.ml_typing.specs.declared.equation.Term.{Term}
 use Rattle.ml_typing.specs.declared.equation.Term.TheVariants.{Of, Function}
@@ -39,18 +40,47 @@ first es e f h g = h ∙ ap (λ z. z ∷ []) g
 pub more : (es gs known : List Equation) (e f : Equation) → es ≡ known → gs ≡ es ++ e ∷ [] → e ≡ f → gs ≡ known ++ f ∷ []
 more es gs known e f h grown g = grown ∙ (ap (λ z. z ++ e ∷ []) h ∙ ap (λ z. known ++ z ∷ []) g)
 
+-- one equation, at the front of none or of others
+pub alone : (start es : List Equation) (e f : Equation) → start ≡ [] → es ≡ start ++ e ∷ [] → e ≡ f → es ≡ f ∷ []
+alone start es e f none grown g = grown ∙ (ap (λ z. z ++ e ∷ []) none ∙ ap (λ z. z ∷ []) g)
+
+pub first_then : (es gs : List Equation) (e f : Equation) (rest others : List Equation) → es ≡ e ∷ [] → e ≡ f → gs ≡ es ++ rest → rest ≡ others → gs ≡ f ∷ others
+first_then es gs e f rest others h g grown same = grown ∙ (ap (λ z. z ++ rest) h ∙ (ap (λ z. z ∷ rest) g ∙ ap (λ z. f ∷ z) same))
+
+pub after_none : (start es rest others : List Equation) → start ≡ [] → es ≡ start ++ rest → rest ≡ others → es ≡ others
+after_none start es rest others none grown same = grown ∙ (ap (λ z. z ++ rest) none ∙ same)
+
+pub parts_of_three : (es : List Equation) (e f g h k : Equation) → es ≡ e ∷ f ∷ g ∷ [] → f ≡ h → g ≡ k → es ≡ e ∷ h ∷ k ∷ []
+parts_of_three es e f g h k is one other = is ∙ (ap (λ z. e ∷ z ∷ g ∷ []) one ∙ ap (λ z. e ∷ h ∷ z ∷ []) other)
+
+pub term_is : (part : Span) (left : Unknown) (right term : Term) → right ≡ term → equation part left right ≡ equation part left term
+term_is part left right term e = ap (equation part left) e
+
+pub function_is : (params others : List Term) (result term : Term) → params ≡ others → result ≡ term → Function params result ≡ Function others term
+function_is params others result term e f = ap (λ z. Function z result) e ∙ ap (Function others) f
+
+-- a list that begins with nothing
+pub begun : {A : Type 0} (start rest : List A) → start ≡ [] → start ++ rest ≡ [] ++ rest
+begun start rest none = ap (λ z. z ++ rest) none
+
+pub pushed : {A : Type 0} (start : List A) (x y : A) → start ≡ [] → x ≡ y → start ++ x ∷ [] ≡ y ∷ []
+pushed start x y none same = ap (λ z. z ++ x ∷ []) none ∙ ap (λ z. z ∷ []) same
+
+-- from the start of one to the end of another
+abbrev pub between : Span → Span → Span
+between from to = record { start = from.start; «end» = to.«end» }
+
 -- a bind's parameters and body
-pub value_from : (names : Names) (params : List Param) (q : Param) (body : Expr) → slice_get params 0 ≡ Some q → record { start = (out-Pat q.pat).span.start; «end» = (out-Expr body).span.«end» } ≡ value_span (param_parts names params) (expression names body)
-value_from names [] q body h = absurd cc
+pub value_from : (names : Names) (params : List Param) (q : Param) (body : Expr) → slice_get params 0 ≡ Some q → between (out-Pat q.pat).span (out-Expr body).span ≡ value_span (param_parts names params) (expression names body)
+value_from names [] q body h = absurd (let g : None ≡ Some q = h in cc)
 value_from names (r ∷ params) q body h =
     let same : r ≡ q = cc in
-    let span : Span → Span → Span = λ a b. record { start = a.start; «end» = b.«end» } in
-    ap (λ (z : Param). span (out-Pat z.pat).span (out-Expr body).span) (sym same)
-    ∙ (ap (λ z. span z (out-Expr body).span) (sym (P.whole_span names r.pat)) ∙ ap (span (pattern names r.pat).span) (sym (E.whole_span names body)))
+    ap (λ (z : Param). between (out-Pat z.pat).span (out-Expr body).span) (sym same)
+    ∙ (ap (λ z. between z (out-Expr body).span) (sym (P.whole_span names r.pat)) ∙ ap (between (pattern names r.pat).span) (sym (E.whole_span names body)))
 
 pub value_none : (names : Names) (params : List Param) (body : Expr) → slice_get params 0 ≡ None → (out-Expr body).span ≡ value_span (param_parts names params) (expression names body)
 value_none names [] body h = sym (E.whole_span names body)
-value_none names (r ∷ params) body h = absurd cc
+value_none names (r ∷ params) body h = absurd (let g : Some r ≡ None = h in cc)
 
 -- the first equation of a bind
 pub bind_first : (names : Names) (b : Bind) (span : Span) (params : List Term) (right : Term) (es : List Equation) → span ≡ value_span (param_parts names (out-Bind b).params) (expression names (out-Bind b).body) → params ≡ map type_of (param_parts names (out-Bind b).params) → right ≡ Of (Node (out-Expr (out-Bind b).body).id) → es ≡ equation span (Node (out-Pat (out-Bind b).pat).id) (Function params right) ∷ [] → es ≡ equation (value_span (bind names b).params (bind names b).body) (Node (bind names b).pat.id) (Function (map type_of (bind names b).params) (type_of (bind names b).body)) ∷ []
@@ -66,7 +96,7 @@ bind_first names b span params right es s p r h =
     ∙ (ap (λ z. equation (value_span ps (expression names x)) (Node z) (Function (map type_of ps) (type_of (expression names x))) ∷ []) (sym (P.whole_id names q))
     ∙ ap (λ (z : BindPart). equation (value_span z.params z.body) (Node z.pat.id) (Function (map type_of z.params) (type_of z.body)) ∷ []) (sym (E.of_bind names b))))))
 
-abbrev first_of : Names → Bind → Equation
+abbrev pub first_of : Names → Bind → Equation
 first_of names b = equation (value_span (bind names b).params (bind names b).body) (Node (bind names b).pat.id) (Function (map type_of (bind names b).params) (type_of (bind names b).body))
 
 bind_result : (names : Names) (b : Bind) (o : Option TyExpr) → (out-Bind b).result ≡ o → (bind names b).result ≡ result_term names o
@@ -117,3 +147,26 @@ pub last_part : (names : Names) (n : ℕ) (xs front : List Expr) (x : Expr) (rig
 last_part names n xs front x right es is r h =
     h ∙ (ap (λ z. z ∷ []) (expression_is names x x right (Of (Node n)) refl r)
     ∙ (sym (last_of n (map (expression names) front) (expression names x)) ∙ (ap (last_is n) (sym (map_append names front x)) ∙ ap (λ z. last_is n (map (expression names) z)) (sym is))))
+
+behind : (y z : Expr) (zs : List Expr) → length (y ∷ z ∷ zs) - 1 ≡ suc (length (z ∷ zs) - 1)
+behind y z zs = omega arith
+
+last_split : (xs : List Expr) (x : Expr) → slice_get xs (length xs - 1) ≡ Some x → (front : List Expr) × (xs ≡ front ++ x ∷ [])
+last_split [] x h = absurd (let g : None ≡ Some x = h in cc)
+last_split (y ∷ []) x h = ([], let e : y ≡ x = cc in ap (λ z. z ∷ []) e)
+last_split (y ∷ z ∷ zs) x h =
+    let inner = last_split (z ∷ zs) x (sym (ap (slice_get (y ∷ z ∷ zs)) (behind y z zs)) ∙ h) in
+    (y ∷ inner.0, ap (λ ws. y ∷ ws) inner.1)
+
+no_last : (xs : List Expr) → slice_get xs (length xs - 1) ≡ None → xs ≡ []
+no_last [] h = refl
+no_last (y ∷ []) h = absurd (let g : Some y ≡ None = h in cc)
+no_last (y ∷ z ∷ zs) h = absurd (let g : z ∷ zs ≡ [] = no_last (z ∷ zs) (sym (ap (slice_get (y ∷ z ∷ zs)) (behind y z zs)) ∙ h) in cc)
+
+pub last_some : (names : Names) (n : ℕ) (xs : List Expr) (x : Expr) (right : Term) (es : List Equation) → slice_get xs (length xs - 1) ≡ Some x → right ≡ Of (Node n) → es ≡ [] ++ equation (out-Expr x).span (Node (out-Expr x).id) right ∷ [] → es ≡ last_is n (map (expression names) xs)
+last_some names n xs x right es at r h =
+    let s = last_split xs x at in
+    last_part names n xs s.0 x right es s.1 r h
+
+pub last_none : (names : Names) (n : ℕ) (xs : List Expr) → slice_get xs (length xs - 1) ≡ None → [] ≡ last_is n (map (expression names) xs)
+last_none names n xs h = ap (λ z. last_is n (map (expression names) z)) (sym (no_last xs h))

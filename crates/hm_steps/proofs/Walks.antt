@@ -49,7 +49,7 @@ compared_by names r x n e = ap (λ (z : Row). z.compared n) e ∙ P.none_compare
 pub not_compared : (names : Names) (kind : PatKind) (n : ℕ) → (pattern_kind names kind).compared n ≡ None
 not_compared names kind n = compared_by names (pattern_kind names kind) _ n (fold_out-PatKind Row FieldPart Part (pattern_row names) pattern_field pattern_whole kind)
 
-abbrev node_step : ℕ → Span → List Equation → Option Unknown → Step
+abbrev pub node_step : ℕ → Span → List Equation → Option Unknown → Step
 node_step id span equations compared = record { span = span; node = Some id; equations = equations; compared = compared }
 
 -- a node behind its parts
@@ -68,7 +68,7 @@ expression_walk names x old mid new es compared before is c grown =
     node_walk (expr_kind names (out-Expr x).kind) (out-Expr x).id (out-Expr x).span [] old mid new es es compared before is (sym (append-nil es)) c grown
     ∙ ap (λ z. old ++ steps_of z) (sym (E.whole names x))
 
-abbrev field_step : ℕ → Span → ℕ → Span → Step
+abbrev pub field_step : ℕ → Span → ℕ → Span → Step
 field_step id name inner span = record { span = record { start = name.start; «end» = span.«end» }; node = Some id; equations = equation span (Node id) (Of (Node inner)) ∷ []; compared = None }
 
 pub field_pattern_walk : (names : Names) (f : FieldPat) (old mid new : List Step) → mid ≡ old ++ steps_of (pattern names (out-FieldPat f).pat) → new ≡ mid ++ field_step (out-FieldPat f).id (out-FieldPat f).name (out-Pat (out-FieldPat f).pat).id (out-Pat (out-FieldPat f).pat).span ∷ [] → new ≡ old ++ steps_of (field_pattern names f).part
@@ -94,7 +94,7 @@ arm_walk names a scrutinee old m k new e f g =
     three old m k new (steps_and (pattern names (out-Arm a).pat) (node_is (pattern names (out-Arm a).pat) scrutinee ∷ [])) (steps_of_any (option_map (expression names) (out-Arm a).guard)) (steps_of (expression names (out-Arm a).body)) e f g
     ∙ ap (λ (z : ArmPart). old ++ arm_steps scrutinee z) (sym (E.of_arm names a))
 
-abbrev bind_of : Span → Span → List Equation → Step
+abbrev pub bind_of : Span → Span → List Equation → Step
 bind_of pat body equations = record { span = record { start = pat.start; «end» = body.«end» }; node = None; equations = equations; compared = None }
 
 pub bind_walk : (names : Names) (b : Bind) (old m k l new : List Step) (es : List Equation) → m ≡ old ++ steps_of (pattern names (out-Bind b).pat) → k ≡ m ++ all_steps (param_parts names (out-Bind b).params) → l ≡ k ++ steps_of (expression names (out-Bind b).body) → es ≡ (bind_step (bind names b)).equations → new ≡ l ++ bind_of (out-Pat (out-Bind b).pat).span (out-Expr (out-Bind b).body).span es ∷ [] → new ≡ old ++ bind_steps (bind names b)

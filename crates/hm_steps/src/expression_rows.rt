@@ -228,8 +228,8 @@ fn binary_row(
 fn last_is(alloc: Global, n: u32, list: &[Expr]) -> Result<Items<Equation>, NoMemory>
     ensures { IfOk result (λ es. (names : Names) → es ≡ last_is n (map (expression names) list.now)) }
 {
-    match list {
-        [.., last] => part_is(Items::new(alloc), last, node(n)),
-        _ => Ok(Items::new(alloc)),
+    match list.last() {
+        Some(last) => part_is(Items::new(alloc), last, node(n)),
+        None => Ok(Items::new(alloc)),
     }
 }

@@ -65,7 +65,7 @@ pub parts-returns-in_ok-pattern-in-Paren : goal.parts-returns-in_ok-pattern-in-P
 parts-returns-in_ok-pattern-in-Paren t c = λ n. P.paren (names_of c.args.s.now.refs c.args.s.now.types c.args.item) c.args.kind.now _ _ n _ _ c.in-Paren.is c.get-in-Paren.ensures c.in_ok-pattern-in-Paren.ensures
 
 pub parts-returns-in-Any : goal.parts-returns-in-Any
-parts-returns-in-Any t c = λ n. P.any (names_of c.args.s.now.refs c.args.s.now.types c.args.item) c.args.kind.now  n _ c.in-Any.is
+parts-returns-in-Any t c = λ n. P.any (names_of c.args.s.now.refs c.args.s.now.types c.args.item) c.args.kind.now n _ c.in-Any.is
 
 pub parts-returns-in-Name : goal.parts-returns-in-Name
 parts-returns-in-Name t c = λ n. P.name (names_of c.args.s.now.refs c.args.s.now.types c.args.item) c.args.kind.now _ _ n _ c.in-Name.is
