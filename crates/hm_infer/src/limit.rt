@@ -1,12 +1,12 @@
 //! The first step that makes a type too large, found by running the program again.
 ghost use Rattle.hm_unify.specs.States.{IsTable};
 
+use crate::items::item_steps;
 use crate::nodes::{copy_table, slots_of};
 use crate::operations::add_operations;
 use crate::run::{any_large, run_step, run_steps};
 use crate::scheme::close_item;
 use crate::solver::Solver;
-use hm_steps::item_steps;
 use ml_tree::{Item, Scoped};
 use ml_types::{Decls, TyTable};
 use ml_typing::Step;

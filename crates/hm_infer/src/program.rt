@@ -4,11 +4,11 @@ ghost use Rattle.hm_unify.specs.States.{IsTable};
 ghost use Rattle.hm_infer.specs.Outcomes.{IsTypeRefusal};
 
 use crate::error::InferErr;
+use crate::items::item_steps;
 use crate::limit::{first_large, first_solver};
 use crate::run::{Outcome, any_large, run_steps};
 use crate::scheme::{bad_comparison, close_item, note_nodes, scheme_of};
 use crate::solver::Solver;
-use hm_steps::item_steps;
 use ml_tree::{Item, Scoped};
 use ml_types::{Decls, TyId, TyTable};
 use ml_typing::{Step, Typed};

@@ -1,7 +1,7 @@
 //! What an item leaves: the schemes of its names, the types of its nodes, and its comparisons.
+use crate::items::item_binders;
 use crate::nodes::{part, part_count};
 use crate::solver::Solver;
-use hm_steps::item_binders;
 use ml_tree::Item;
 use ml_types::{Scheme, TyId, TyNode};
 use ml_typing::{Step, Unknown};
