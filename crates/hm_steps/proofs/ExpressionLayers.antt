@@ -144,3 +144,10 @@ con_at kind name arg other is same = is ∙ ap (λ z. E.Con name z) same
 
 pub if_at : (kind : ExprKind) (x y : Expr) (arg other : Option Expr) → kind ≡ E.If x y arg → arg ≡ other → kind ≡ E.If x y other
 if_at kind x y arg other is same = is ∙ ap (λ z. E.If x y z) same
+
+-- neither is a comparison, whatever its last part
+pub con_compares : (names : Names) (name : ConName) (arg : Option Expr) (n : ℕ) → (expr_kind names (E.Con name arg)).compared n ≡ None
+con_compares names name arg n = ap (λ (r : Row). r.compared n) (ap (expr_kind names) (sym (E.rolls-Con name arg)) ∙ fold-roll-ExprKind Row ArmPart BindPart Part FieldPart (expr_row names) (arm_part names) (bind_part names) expr_whole expr_field (e.Con name arg))
+
+pub if_compares : (names : Names) (x y : Expr) (arg : Option Expr) (n : ℕ) → (expr_kind names (E.If x y arg)).compared n ≡ None
+if_compares names x y arg n = ap (λ (r : Row). r.compared n) (ap (expr_kind names) (sym (E.rolls-If x y arg)) ∙ fold-roll-ExprKind Row ArmPart BindPart Part FieldPart (expr_row names) (arm_part names) (bind_part names) expr_whole expr_field (e.If x y arg))

@@ -15,7 +15,7 @@ use Rattle.ml_typing.specs.declared.equation.Term.{Term}
 use Rattle.ml_typing.specs.declared.equation.Term.TheVariants.{Of, Function}
 use Rattle.ml_typing.specs.declared.equation.Equation.{Equation}
 use Rattle.ml_typing.specs.Written.{Names, written}
-use Rattle.ml_typing.specs.Rows.{Part, Row, pattern, equation, node_is, type_of, bool}
+use Rattle.ml_typing.specs.Rows.{Part, pattern, equation, node_is, type_of, bool, scrutinee_is}
 use Rattle.ml_typing.specs.Steps.{ArmPart, BindPart, expression, arm, bind, bind_step, param_parts, value_span, result_term, result_is, guard_is, last_is}
 use Rattle.hm_steps.proofs.PatternLayers as P
 use Rattle.hm_steps.proofs.ExpressionLayers as E
@@ -170,3 +170,11 @@ last_some names n xs x right es at r h =
 
 pub last_none : (names : Names) (n : ℕ) (xs : List Expr) → slice_get xs (length xs - 1) ≡ None → [] ≡ last_is n (map (expression names) xs)
 last_none names n xs h = ap (λ z. last_is n (map (expression names) z)) (sym (no_last xs h))
+
+-- the scrutinee's type behind the row of an arm's top pattern
+pub scrutinee_some : (names : Names) (q : Pat) (scrutinee : Option Unknown) (u : Unknown) (own es : List Equation) → scrutinee ≡ Some u → es ≡ own ++ equation (out-Pat q).span (Node (out-Pat q).id) (Of u) ∷ [] → es ≡ own ++ scrutinee_is (pattern names q) scrutinee
+scrutinee_some names q scrutinee u own es is h =
+    h ∙ (ap (λ z. own ++ z ∷ []) (P.is_node names q (Of u)) ∙ ap (λ z. own ++ scrutinee_is (pattern names q) z) (sym is))
+
+pub scrutinee_none : (names : Names) (q : Pat) (scrutinee : Option Unknown) (own : List Equation) → scrutinee ≡ None → own ≡ own ++ scrutinee_is (pattern names q) scrutinee
+scrutinee_none names q scrutinee own is = sym (append-nil own) ∙ ap (λ z. own ++ scrutinee_is (pattern names q) z) (sym is)

@@ -43,6 +43,12 @@ of_kind f kind k r n old new is law h = h ∙ ap (λ (z : Row). old ++ z.before 
 pub row_of_kind : {K : Type 0} (f : K → Row) (kind k : K) (r : Row) (n : ℕ) (span : Span) (es : List Equation) → kind ≡ k → f k ≡ r → es ≡ r.own n span → es ≡ (f kind).own n span
 row_of_kind f kind k r n span es is law h = h ∙ ap (λ (z : Row). z.own n span) (sym (ap f is ∙ law))
 
+pub compared_of_kind : {K : Type 0} (f : K → Row) (kind k : K) (r : Row) (n : ℕ) (o : Option Unknown) → kind ≡ k → f k ≡ r → o ≡ r.compared n → o ≡ (f kind).compared n
+compared_of_kind f kind k r n o is law h = h ∙ ap (λ (z : Row). z.compared n) (sym (ap f is ∙ law))
+
+pub compared_by_kind : {K : Type 0} (f : K → Row) (kind k : K) (n : ℕ) (o : Option Unknown) → kind ≡ k → (f k).compared n ≡ o → o ≡ (f kind).compared n
+compared_by_kind f kind k n o is law = sym law ∙ ap (λ z. (f z).compared n) (sym is)
+
 compared_by : (names : Names) (r : Row) (x : PatKind-F Row FieldPart Part) (n : ℕ) → r ≡ pattern_row names x → r.compared n ≡ None
 compared_by names r x n e = ap (λ (z : Row). z.compared n) e ∙ P.none_compared names x n
 

@@ -19,21 +19,6 @@ use oxml_base::{Items, NoMemory, Span};
 use sqlite_items::Boxed;
 use std::alloc::Global;
 
-/// The type of the operands of a comparison, at the node of this number.
-pub fn compared(n: u32, kind: &ExprKind) -> Option<Unknown>
-    ensures { (names : Names) → result ≡ (expr_kind names kind.now).compared n }
-{
-    match kind {
-        ExprKind::Binary(op, _, _) => match op {
-            BinOp::Eq | BinOp::Ne | BinOp::Lt | BinOp::Gt | BinOp::Le | BinOp::Ge => {
-                Some(Unknown::Fresh(n, 0))
-            }
-            _ => None,
-        },
-        _ => None,
-    }
-}
-
 /// The equations of the row of an expression's node, by its number, its span and its kind. Where the
 /// node's own type is new it comes first, so that it is never what fails.
 pub fn row(

@@ -9,7 +9,8 @@ ghost use Rattle.ml_typing.specs.Typing.{names_of};
 ghost use Rattle.hm_steps.specs.Blocks.{arm_steps};
 
 use crate::bind_rows::bind_row;
-use crate::expression_rows::{compared, row};
+use crate::comparisons::compared;
+use crate::expression_rows::row;
 use crate::patterns::{field_step, params, pattern, push};
 use ml_tree::{Arm, Bind, Expr, ExprKind, FieldExpr, Scoped};
 use ml_typing::{Step, Unknown};

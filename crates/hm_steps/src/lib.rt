@@ -4,6 +4,7 @@
 mod applications;
 mod bind_rows;
 mod binders;
+mod comparisons;
 mod expression_rows;
 mod expressions;
 mod items;
