@@ -1,0 +1,122 @@
+//! What is done where the values of all parts are there.
+
+use crate::apply::count;
+use crate::frame::{Finish, Here, Next, Step, Then, go_on, evaluate_then};
+use crate::operate::{failed, finish, finish_given, operate};
+use crate::pattern::fit_binds;
+use crate::told::{Failure, made};
+use crate::value::{Word, Words, and};
+use crate::world::{World, field_place, operation_arity};
+use ml_meaning::Event;
+use ml_tree::{FieldExpr, Op};
+use oxml_base::NoMemory;
+
+fn build<'a>(
+    told: &mut Vec<Event>,
+    node: u32,
+    place: u32,
+    parts: Words<'a>,
+    here: Here<'a>,
+) -> Result<Step<'a>, NoMemory> {
+    made(told, node, (count(parts) as u64).saturating_add(1))?;
+    finish(told, here.mode, Word::Block(place, parts))
+}
+
+/// The values in the order of the record's declaration.
+fn arranged<'a>(
+    world: World<'a>,
+    fields: &[FieldExpr],
+    parts: Words<'a>,
+) -> Result<Words<'a>, NoMemory> {
+    let mut slots = crate::collect::filled(world.alloc, fields.len(), None)?;
+    let mut rest = parts;
+    for field in fields {
+        let Words::And(pair) = rest else {
+            return Err(NoMemory);
+        };
+        let Some(place) = field_place(world.scoped, field.id) else {
+            return Err(NoMemory);
+        };
+        match slots.get_mut(place as usize) {
+            Some(slot) => *slot = Some(pair.first),
+            None => return Err(NoMemory),
+        }
+        rest = pair.rest;
+    }
+    let mut words = Words::Empty;
+    while let Some(slot) = slots.pop() {
+        match slot {
+            Some(word) => words = and(world.bump, word, words)?,
+            None => return Err(NoMemory),
+        }
+    }
+    Ok(words)
+}
+
+/// An operation on its arguments. No operation gives a function, so none has more of them.
+fn operate_parts<'a>(
+    world: World<'a>,
+    told: &mut Vec<Event>,
+    node: u32,
+    op: Op,
+    parts: Words<'a>,
+    here: Here<'a>,
+) -> Result<Step<'a>, NoMemory> {
+    if count(parts) != operation_arity(op) {
+        return over_applied(world, told, node, op, parts);
+    }
+    let given = operate(world, told, Some(node), op, parts)?;
+    finish_given(told, here.mode, given)
+}
+
+/// An operation on more arguments than it has. It ends the program, for no operation gives a
+/// function.
+fn over_applied<'a>(
+    world: World<'a>,
+    told: &mut Vec<Event>,
+    node: u32,
+    op: Op,
+    parts: Words<'a>,
+) -> Result<Step<'a>, NoMemory> {
+    let Words::And(pair) = parts else {
+        return Err(NoMemory);
+    };
+    if operation_arity(op) != 1 {
+        return Err(NoMemory);
+    }
+    let first = and(world.bump, pair.first, Words::Empty)?;
+    match operate(world, told, Some(node), op, first)? {
+        crate::operate::Given::End(ending) => Ok(go_on(Next::Stop(ending))),
+        crate::operate::Given::Value(_) => Err(NoMemory),
+    }
+}
+
+/// What is done with the values of all parts.
+pub fn complete<'a>(
+    world: World<'a>,
+    told: &mut Vec<Event>,
+    last: Finish<'a>,
+    parts: Words<'a>,
+    here: Here<'a>,
+) -> Result<Step<'a>, NoMemory> {
+    match last {
+        Finish::Build(node, place) => build(told, node, place, parts, here),
+        Finish::Record(node, fields) => {
+            let parts = arranged(world, fields, parts)?;
+            build(told, node, 0, parts, here)
+        }
+        Finish::Operate(node, op) => operate_parts(world, told, node, op, parts, here),
+        Finish::Apply(node, function) => Ok(evaluate_then(function, Then::Callee(node, parts), here)),
+        Finish::Bind(binds, body) => match fit_binds(world, binds, parts, here.env)? {
+            Some(env) => Ok(go_on(Next::Visit(body, here.with(env)))),
+            None => failed(told, Failure::NoMatch),
+        },
+        Finish::Overwrite(node, place) => {
+            told.push(Event::Over {
+                node,
+                words: (count(parts) as u64).saturating_add(1),
+            })?;
+            finish(told, here.mode, Word::Block(place, parts))
+        }
+    }
+}
