@@ -1,4 +1,4 @@
-ghost use Rattle.std.specs.Prelude.{◌≡◌, ◌++◌, map, OnOk};
+ghost use Rattle.std.specs.Prelude.{◌≡◌, ◌++◌, [], map, OnOk};
 ghost use Rattle.ml_meaning.specs.Captures.{together, local_use, bound_names, bound_by_params, binders, binders_of_arm, uses, uses_of_arm};
 ghost use Rattle.ml_words.specs.Named.{targets};
 ghost use Rattle.ml_functions.specs.Used.{bound_names_of_kind, bound_names_of_field, binders_of_kind, binders_of_field, binders_of_bind, uses_of_kind, uses_of_field, uses_of_bind};
@@ -6,12 +6,26 @@ ghost use Rattle.ml_functions.specs.Used.{bound_names_of_kind, bound_names_of_fi
 use ml_tree::{Arm, Bind, Expr, ExprKind, FieldExpr, FieldPat, Param, Pat, PatKind, Ref, Scoped};
 use ml_words::target;
 use oxml_base::NoMemory;
+use std::alloc::Global;
 
 /// The names that are used and that are bound, in the order of the source.
 #[derive(Drop)]
 pub struct Gathered {
     pub uses: Vec<u32>,
     pub binders: Vec<u32>,
+}
+
+impl Gathered {
+    /// No names yet.
+    pub fn new(alloc: Global) -> Gathered
+        ensures uses { result.uses.items ≡ [] }
+        ensures binders { result.binders.items ≡ [] }
+    {
+        Gathered {
+            uses: Vec::new(alloc),
+            binders: Vec::new(alloc),
+        }
+    }
 }
 
 fn use_at(s: &Scoped, node: u32, found: &mut Gathered) -> Result<(), NoMemory>

@@ -2,8 +2,12 @@
 //! what a call of it weighs.
 #![tactic(auto)]
 
+mod collect;
+mod function;
 mod gather;
 mod marks;
 mod weights;
 
-pub use weights::{of_binds, weight};
+pub use collect::functions;
+pub use function::{Body, Function, Functions};
+pub use weights::weighed_binds;

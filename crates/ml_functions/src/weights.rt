@@ -1,5 +1,5 @@
-ghost use Rattle.std.specs.Prelude.{◌≡◌, ◌+◌, ◌*◌, ◌<◌, ◌^◌, sum, map, IfOk};
-ghost use Rattle.ml_meaning.specs.Weights.{patterns_of, expressions_of, expressions_of_arm, expressions_of_bind, weight};
+ghost use Rattle.std.specs.Prelude.{◌≡◌, ◌+◌, ◌<◌, ◌^◌, sum, map, IfOk};
+ghost use Rattle.ml_meaning.specs.Weights.{patterns_of, patterns_of_params, expressions_of, expressions_of_arm, expressions_of_bind, weight};
 ghost use Rattle.ml_functions.specs.Parts.{counted, patterns_of_kind, patterns_of_field, patterns_of_param, expressions_of_kind, expressions_of_field};
 
 use ml_tree::{Arm, Bind, Expr, ExprKind, FieldExpr, FieldPat, Param, Pat, PatKind};
@@ -7,7 +7,7 @@ use oxml_base::NoMemory;
 
 /// The words of the call stack for so many expressions and patterns. `NoMemory` where they are more
 /// than 2^61, which no memory holds.
-pub fn weight(parts: u64) -> Result<u64, NoMemory>
+fn weight(parts: u64) -> Result<u64, NoMemory>
     ensures value { IfOk result (λ words. words ≡ weight parts) }
     ensures bound { IfOk result (λ words. parts < 2 ^ 61) }
 {
@@ -75,7 +75,7 @@ fn of_field_pattern(field: &FieldPat) -> u64
 }
 
 /// The patterns in parameters.
-pub fn of_params(list: &[Param]) -> u64
+fn of_params(list: &[Param]) -> u64
     ensures { result ≡ counted (sum (map patterns_of_param list.now)) }
 {
     let mut total = 0u64;
@@ -87,7 +87,7 @@ pub fn of_params(list: &[Param]) -> u64
 
 /// The expressions and patterns in an expression, an inner function counting as one.
 #[cycle(parts)]
-pub fn of_expr(e: &Expr) -> u64
+fn of_expr(e: &Expr) -> u64
     ensures { result ≡ counted (expressions_of e.now) }
 {
     of_kind(&e.kind).saturating_add(1)
@@ -175,7 +175,7 @@ fn of_field(field: &FieldExpr) -> u64
 
 /// The expressions and patterns in arms.
 #[cycle(parts)]
-pub fn of_arms(list: &[Arm]) -> u64
+fn of_arms(list: &[Arm]) -> u64
     ensures { result ≡ counted (sum (map expressions_of_arm list.now)) }
 {
     let mut total = 0u64;
@@ -198,7 +198,7 @@ fn of_arm(arm: &Arm) -> u64
 
 /// The expressions and patterns in bindings; one with parameters is an inner function.
 #[cycle(parts)]
-pub fn of_binds(list: &[Bind]) -> u64
+fn of_binds(list: &[Bind]) -> u64
     ensures { result ≡ counted (sum (map expressions_of_bind list.now)) }
 {
     let mut total = 0u64;
@@ -216,4 +216,25 @@ fn of_bind(bind: &Bind) -> u64
         return of_pattern(&bind.pat).saturating_add(of_expr(&bind.body));
     }
     1
+}
+
+/// What a call of a function behind parameters weighs, in words.
+pub fn weighed_params(params: &[Param], body: &Expr) -> Result<u64, NoMemory>
+    ensures { IfOk result (λ words. words ≡ weight (patterns_of_params params.now + expressions_of body.now)) }
+{
+    weight(of_params(params).saturating_add(of_expr(body)))
+}
+
+/// What a call of a function of arms weighs, in words.
+pub fn weighed_arms(arms: &[Arm]) -> Result<u64, NoMemory>
+    ensures { IfOk result (λ words. words ≡ weight (sum (map expressions_of_arm arms.now))) }
+{
+    weight(of_arms(arms))
+}
+
+/// What an item of these bindings weighs, in words.
+pub fn weighed_binds(binds: &[Bind]) -> Result<u64, NoMemory>
+    ensures { IfOk result (λ words. words ≡ weight (sum (map expressions_of_bind binds.now))) }
+{
+    weight(of_binds(binds))
 }

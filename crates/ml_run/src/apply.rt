@@ -1,26 +1,15 @@
 //! Functions: how they are made, applied and called.
 
 use crate::frame::{Frame, Here, Next, Step, Then, go_on};
-use crate::function::{Body, Function};
-use crate::operate::{failed, finish, finish_given, operate};
-use crate::pattern::{fit_params, fits};
-use crate::told::{Failure, Mode, leave, made};
-use crate::value::{Code, Env, Word, Words, and, bind};
-use crate::world::{World, local};
+use crate::finish::{failed, finish, finish_given};
+use crate::world::World;
+use ml_functions::{Body, Function};
 use ml_meaning::{Ending, Event};
 use ml_tree::Arm;
+use ml_values::{
+    Code, Env, Failure, Mode, Word, Words, and, bind, count, fit_params, fits, leave, local, made, operate,
+};
 use oxml_base::NoMemory;
-
-/// How many values there are.
-pub fn count(words: Words) -> usize {
-    let mut total = 0usize;
-    let mut rest = words;
-    while let Words::And(pair) = rest {
-        total = total.saturating_add(1);
-        rest = pair.rest;
-    }
-    total
-}
 
 /// The values of one list, and then those of another.
 fn append<'a>(
@@ -28,7 +17,7 @@ fn append<'a>(
     first: Words<'a>,
     second: Words<'a>,
 ) -> Result<Words<'a>, NoMemory> {
-    let mut list = Vec::new(world.alloc);
+    let mut list = Vec::new(world.tools.alloc);
     let mut rest = first;
     while let Words::And(pair) = rest {
         list.push(pair.first)?;
@@ -36,7 +25,7 @@ fn append<'a>(
     }
     let mut all = second;
     while let Some(word) = list.pop() {
-        all = and(world.bump, word, all)?;
+        all = and(world.tools.bump, word, all)?;
     }
     Ok(all)
 }
@@ -47,7 +36,7 @@ fn split<'a>(
     words: Words<'a>,
     at: usize,
 ) -> Result<(Words<'a>, Words<'a>), NoMemory> {
-    let mut list = Vec::new(world.alloc);
+    let mut list = Vec::new(world.tools.alloc);
     let mut rest = words;
     for _ in 0..at {
         match rest {
@@ -63,7 +52,7 @@ fn split<'a>(
     }
     let mut first = Words::Empty;
     while let Some(word) = list.pop() {
-        first = and(world.bump, word, first)?;
+        first = and(world.tools.bump, word, first)?;
     }
     Ok((first, rest))
 }
@@ -79,7 +68,7 @@ fn captured<'a>(
         let Some(word) = local(env, *name) else {
             return Err(NoMemory);
         };
-        words = and(world.bump, word, words)?;
+        words = and(world.tools.bump, word, words)?;
     }
     Ok(words)
 }
@@ -179,7 +168,7 @@ fn call<'a>(
     enter(told, mode, world.weight(code))?;
     match code {
         Code::Primitive(op) => {
-            let given = operate(world, told, None, op, args)?;
+            let given = operate(world.tools, told, None, op, args)?;
             finish_given(told, Mode::Last(64), given)
         }
         Code::Source(node) => match world.functions.at(node) {
@@ -199,14 +188,14 @@ fn closed<'a>(
     let mut env = Env::Nothing;
     if let Some(own) = function.own {
         let word = Word::Function(Code::Source(node), captured, Words::Empty);
-        env = bind(world.bump, own, word, env)?;
+        env = bind(world.tools.bump, own, word, env)?;
     }
     let mut rest = captured;
     for name in function.captures {
         let Words::And(pair) = rest else {
             return Err(NoMemory);
         };
-        env = bind(world.bump, *name, pair.first, env)?;
+        env = bind(world.tools.bump, *name, pair.first, env)?;
         rest = pair.rest;
     }
     Ok(env)
@@ -229,7 +218,7 @@ fn body<'a>(
         fuel,
     };
     match function.body {
-        Body::Single(e) => match fit_params(world, function.params, args, env)? {
+        Body::Single(e) => match fit_params(world.tools, function.params, args, env)? {
             Some(env) => Ok(go_on(Next::Visit(e, here.with(env)))),
             None => failed(told, Failure::NoMatch),
         },
@@ -253,7 +242,7 @@ pub fn choose<'a>(
     while at < arms.len() {
         let arm = &arms[at];
         at += 1;
-        if let Some(env) = fits(world, &arm.pat, word, here.env)? {
+        if let Some(env) = fits(world.tools, &arm.pat, word, here.env)? {
             return Ok(taken(arms, at, arm, word, env, here));
         }
     }

@@ -1,9 +1,8 @@
 //! What is left to do behind the expression that is being evaluated.
 
-use crate::told::Mode;
-use crate::value::{Env, Word, Words};
 use ml_meaning::Ending;
 use ml_tree::{Arm, BinOp, Bind, Expr, FieldExpr, Op};
+use ml_values::{Env, Mode, Word, Words};
 
 /// Where an expression stands: whether in tail position, with which names, and with how much fuel
 /// for its calls.

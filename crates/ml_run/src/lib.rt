@@ -2,23 +2,14 @@
 #![tactic(auto)]
 
 mod apply;
-mod collect;
+mod finish;
 mod frame;
-mod function;
-mod gather;
-mod number;
-mod operate;
 mod parts;
-mod pattern;
 mod program;
 mod resume;
-mod text;
-mod told;
-mod value;
-mod visit;
-mod weight;
-mod world;
 #[cfg(test)]
 mod tests;
+mod visit;
+mod world;
 
 pub use program::run;

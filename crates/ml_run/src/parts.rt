@@ -1,14 +1,12 @@
 //! What is done where the values of all parts are there.
 
-use crate::apply::count;
+use crate::finish::{failed, finish, finish_given};
 use crate::frame::{Finish, Here, Next, Step, Then, go_on, evaluate_then};
-use crate::operate::{failed, finish, finish_given, operate};
-use crate::pattern::fit_binds;
-use crate::told::{Failure, made};
-use crate::value::{Word, Words, and};
-use crate::world::{World, field_place, operation_arity};
+use crate::world::World;
 use ml_meaning::Event;
 use ml_tree::{FieldExpr, Op};
+use ml_values::{Failure, Given, Word, Words, and, count, fit_binds, made, operate};
+use ml_words::{field_place, operation_arity};
 use oxml_base::NoMemory;
 
 fn build<'a>(
@@ -28,13 +26,14 @@ fn arranged<'a>(
     fields: &[FieldExpr],
     parts: Words<'a>,
 ) -> Result<Words<'a>, NoMemory> {
-    let mut slots = crate::collect::filled(world.alloc, fields.len(), None)?;
+    let mut slots = Vec::new(world.tools.alloc);
+    slots.resize(fields.len(), None)?;
     let mut rest = parts;
     for field in fields {
         let Words::And(pair) = rest else {
             return Err(NoMemory);
         };
-        let Some(place) = field_place(world.scoped, field.id) else {
+        let Some(place) = field_place(world.tools.scoped, field.id) else {
             return Err(NoMemory);
         };
         match slots.get_mut(place as usize) {
@@ -46,7 +45,7 @@ fn arranged<'a>(
     let mut words = Words::Empty;
     while let Some(slot) = slots.pop() {
         match slot {
-            Some(word) => words = and(world.bump, word, words)?,
+            Some(word) => words = and(world.tools.bump, word, words)?,
             None => return Err(NoMemory),
         }
     }
@@ -65,7 +64,7 @@ fn operate_parts<'a>(
     if count(parts) != operation_arity(op) {
         return over_applied(world, told, node, op, parts);
     }
-    let given = operate(world, told, Some(node), op, parts)?;
+    let given = operate(world.tools, told, Some(node), op, parts)?;
     finish_given(told, here.mode, given)
 }
 
@@ -84,10 +83,10 @@ fn over_applied<'a>(
     if operation_arity(op) != 1 {
         return Err(NoMemory);
     }
-    let first = and(world.bump, pair.first, Words::Empty)?;
-    match operate(world, told, Some(node), op, first)? {
-        crate::operate::Given::End(ending) => Ok(go_on(Next::Stop(ending))),
-        crate::operate::Given::Value(_) => Err(NoMemory),
+    let first = and(world.tools.bump, pair.first, Words::Empty)?;
+    match operate(world.tools, told, Some(node), op, first)? {
+        Given::End(ending) => Ok(go_on(Next::Stop(ending))),
+        Given::Value(_) => Err(NoMemory),
     }
 }
 
@@ -107,7 +106,7 @@ pub fn complete<'a>(
         }
         Finish::Operate(node, op) => operate_parts(world, told, node, op, parts, here),
         Finish::Apply(node, function) => Ok(evaluate_then(function, Then::Callee(node, parts), here)),
-        Finish::Bind(binds, body) => match fit_binds(world, binds, parts, here.env)? {
+        Finish::Bind(binds, body) => match fit_binds(world.tools, binds, parts, here.env)? {
             Some(env) => Ok(go_on(Next::Visit(body, here.with(env)))),
             None => failed(told, Failure::NoMatch),
         },

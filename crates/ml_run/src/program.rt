@@ -1,18 +1,15 @@
 //! Evaluates a program.
 
 use crate::apply::closure;
-use crate::collect::{filled, functions};
 use crate::frame::{Frame, Here, Next, Step};
-use crate::pattern::fit_binds;
 use crate::resume::resume;
-use crate::told::{Failure, Mode, fail};
-use crate::value::{Env, Word, Words, and};
 use crate::visit::visit;
-use crate::weight::{of_binds, weight};
 use crate::world::{World, declared};
 use bumpalo::Bump;
+use ml_functions::{functions, weighed_binds};
 use ml_meaning::{Ending, Event};
 use ml_tree::{Bind, Item, ItemKind, Program, Scoped};
+use ml_values::{Env, Failure, Mode, Tools, Word, Words, and, fail, fit_binds};
 use oxml_base::NoMemory;
 use std::alloc::Global;
 
@@ -58,8 +55,8 @@ fn evaluate<'a>(
     out: &mut Vec<Event>,
     first: Next<'a>,
 ) -> Result<Evaluated<'a>, NoMemory> {
-    let mut told = Vec::new(world.alloc);
-    let mut frames = Vec::new(world.alloc);
+    let mut told = Vec::new(world.tools.alloc);
+    let mut frames = Vec::new(world.tools.alloc);
     let mut next = first;
     for _ in 0..u64::MAX {
         let Some(step) = one_step(world, tops, &mut told, &mut frames, next)? else {
@@ -111,11 +108,11 @@ fn item_names<'a>(
             Next::Close(bind.pat.id, here)
         };
         match evaluate(world, tops, out, first)? {
-            Evaluated::Value(word) => words = and(world.bump, word, words)?,
+            Evaluated::Value(word) => words = and(world.tools.bump, word, words)?,
             Evaluated::End(ending) => return Ok(Matched::End(ending)),
         }
     }
-    match fit_binds(world, binds, words, Env::Nothing)? {
+    match fit_binds(world.tools, binds, words, Env::Nothing)? {
         Some(names) => Ok(Matched::Names(names)),
         None => Ok(Matched::End(fail(out, Failure::NoMatch)?)),
     }
@@ -133,10 +130,11 @@ fn set_tops<'a>(tops: &mut [Option<Word<'a>>], names: Env<'a>) {
     }
 }
 
-fn item_weight(kind: &ItemKind) -> u64 {
+/// The weight of an item; an item of types has no nodes.
+fn item_weight(kind: &ItemKind) -> Result<u64, NoMemory> {
     match kind {
-        ItemKind::Types(_) => weight(0),
-        ItemKind::Let { recursive: _, binds } => weight(of_binds(binds.as_slice())),
+        ItemKind::Types(_) => Ok(64),
+        ItemKind::Let { recursive: _, binds } => weighed_binds(binds.as_slice()),
     }
 }
 
@@ -148,7 +146,7 @@ fn item<'a>(
     item: &'a Item,
     fuel: u64,
 ) -> Result<Option<Ending>, NoMemory> {
-    let weight = item_weight(&item.kind);
+    let weight = item_weight(&item.kind)?;
     out.push(Event::Enter { weight })?;
     out.push(Event::Open)?;
     match &item.kind {
@@ -203,8 +201,9 @@ fn run_items<'a>(
     fuel: u64,
     out: &mut Vec<Event>,
 ) -> Result<Ending, NoMemory> {
-    let program = world.scoped.program();
-    let mut tops = filled(world.alloc, program.nodes as usize, None)?;
+    let program = world.tools.scoped.program();
+    let mut tops = Vec::new(world.tools.alloc);
+    tops.resize(program.nodes as usize, None)?;
     for one in program.items.as_slice() {
         let ended = item(world, tops.as_mut_slice(), out, one, fuel)?;
         match ended {
@@ -221,9 +220,11 @@ fn world_of<'a>(alloc: Global, bump: &'a Bump, s: &'a Scoped) -> Result<World<'a
     let decls = declarations(alloc, s.program().items.as_slice())?;
     let decls: &'a [(usize, usize)] = bump.try_alloc_slice_copy(decls.as_slice())?;
     Ok(World {
-        alloc,
-        bump,
-        scoped: s,
+        tools: Tools {
+            alloc,
+            bump,
+            scoped: s,
+        },
         functions,
         decls,
         append: append_binder(s.program()),

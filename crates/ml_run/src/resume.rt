@@ -2,14 +2,12 @@
 
 use crate::apply::{apply, choose};
 use crate::frame::{Frame, Here, Next, Step, Then, go_on, evaluate_then};
-use crate::operate::{finish, finish_given, negated, operator, truth};
-use crate::pattern::word_at;
-use crate::told::{Mode, close, leave, made};
-use crate::value::{Word, Words, and};
+use crate::finish::{finish, finish_given};
 use crate::visit::{advance, chain, sequence};
 use crate::world::World;
 use ml_meaning::Event;
 use ml_tree::{BinOp, Expr};
+use ml_values::{Mode, Word, Words, and, close, leave, made, negated, operator, truth, word_at};
 use oxml_base::NoMemory;
 
 /// A truth value; `None` where it is none.
@@ -85,8 +83,8 @@ fn linked<'a>(
     tail: Word<'a>,
 ) -> Result<Word<'a>, NoMemory> {
     made(told, node, 3)?;
-    let last = and(world.bump, tail, Words::Empty)?;
-    Ok(Word::Block(1, and(world.bump, head, last)?))
+    let last = and(world.tools.bump, tail, Words::Empty)?;
+    Ok(Word::Block(1, and(world.tools.bump, head, last)?))
 }
 
 /// An arm whose pattern fits is taken where its guard is true; else the arms behind it are tried.
@@ -128,12 +126,12 @@ fn operands<'a>(
         let Some(function) = tops.get(world.append as usize).copied().flatten() else {
             return Err(NoMemory);
         };
-        let last = and(world.bump, other, Words::Empty)?;
-        let args = and(world.bump, one, last)?;
+        let last = and(world.tools.bump, other, Words::Empty)?;
+        let args = and(world.tools.bump, one, last)?;
         close(told, here.mode)?;
         return apply(world, told, node, function, args, here);
     }
-    let given = operator(world, told, node, op, one, other)?;
+    let given = operator(world.tools, told, node, op, one, other)?;
     finish_given(told, here.mode, given)
 }
 
@@ -165,7 +163,7 @@ pub fn resume<'a>(
             done,
             last,
         } => {
-            let done = and(world.bump, word, done)?;
+            let done = and(world.tools.bump, word, done)?;
             advance(world, told, parts, left, done, last, here)
         }
         Then::Chain {

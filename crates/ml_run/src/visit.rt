@@ -1,20 +1,19 @@
 //! How the evaluation of an expression begins.
 
 use crate::apply::closure;
+use crate::finish::finish;
 use crate::frame::{Finish, Frame, Here, Next, Part, Parts, Step, Then, go_on, evaluate_then};
-use crate::number::wrapped;
-use crate::operate::finish;
 use crate::parts::complete;
-use crate::told::{Mode, close};
-use crate::value::{Code, Word, Words};
-use crate::world::{World, constructor_place, local, operation, operation_arity};
+use crate::world::World;
 use ml_meaning::Event;
 use ml_tree::{BinOp, ConName, Expr, ExprKind, Op, Ref};
+use ml_values::{Code, Mode, Word, Words, bind, close, local};
+use ml_words::{constructor_place, field_place, operation, operation_arity, target, wrapped};
 use oxml_base::NoMemory;
 
 /// What a name stands for.
 fn named<'a>(world: World<'a>, tops: &[Option<Word<'a>>], node: u32, here: Here<'a>) -> Option<Word<'a>> {
-    match world.scoped.target(node) {
+    match target(world.tools.scoped, node) {
         Some(Ref::Top(name)) => tops.get(name as usize).copied().flatten(),
         Some(Ref::Local(name)) => local(here.env, name),
         Some(Ref::Operation(op)) => Some(Word::Function(
@@ -107,7 +106,7 @@ fn visit_con<'a>(
     arg: Option<&'a Expr>,
     here: Here<'a>,
 ) -> Result<Step<'a>, NoMemory> {
-    let Some(place) = constructor_place(world.scoped, name, node) else {
+    let Some(place) = constructor_place(world.tools.scoped, name, node) else {
         return Err(NoMemory);
     };
     match arg {
@@ -180,7 +179,7 @@ fn visit_apply<'a>(
 
 fn applied_operation<'a>(world: World<'a>, function: &'a Expr, args: usize) -> Option<Op> {
     match &function.kind {
-        ExprKind::Name(_) | ExprKind::Path(_, _) => match operation(world.scoped, function.id) {
+        ExprKind::Name(_) | ExprKind::Path(_, _) => match operation(world.tools.scoped, function.id) {
             Some(op) => if operation_arity(op) <= args { Some(op) } else { None },
             None => None,
         },
@@ -229,7 +228,7 @@ fn visit_borrow<'a>(
         return Err(NoMemory);
     };
     told.push(Event::Open)?;
-    let env = crate::value::bind(world.bump, node, word, here.env)?;
+    let env = bind(world.tools.bump, node, word, here.env)?;
     Ok(Step {
         next: Next::Visit(body, here.with(env).inner()),
         frame: Some(Frame {
@@ -259,7 +258,7 @@ fn visit_overwrite<'a>(
         ExprKind::Con {
             name,
             arg: Some(arg),
-        } => match constructor_place(world.scoped, *name, built.id) {
+        } => match constructor_place(world.tools.scoped, *name, built.id) {
             Some(place) => visit_parts(
                 world,
                 told,
@@ -374,7 +373,7 @@ fn visit_one<'a>(
     match kind {
         ExprKind::Field(inner, _) => Ok(evaluate_then(
             inner.get(),
-            Then::Project(crate::world::field_place(world.scoped, node)),
+            Then::Project(field_place(world.tools.scoped, node)),
             here,
         )),
         ExprKind::Binary(op, one, other) => Ok(

@@ -1,17 +1,14 @@
 //! What stays as it is while a program is evaluated.
 
-use crate::function::Functions;
-use crate::value::{Code, Env, Word, Words};
-use bumpalo::Bump;
-use ml_tree::{ConName, Decl, DeclBody, ItemKind, Op, Ref, Scoped};
-use std::alloc::Global;
+use ml_functions::Functions;
+use ml_tree::{Decl, DeclBody, ItemKind, Ref};
+use ml_values::{Code, Tools};
+use ml_words::{operation_arity, target};
 
 /// The program with its tables, and the arena in which values are made.
 #[derive(Clone, Copy)]
 pub struct World<'a> {
-    pub alloc: Global,
-    pub bump: &'a Bump,
-    pub scoped: &'a Scoped,
+    pub tools: Tools<'a>,
     pub functions: Functions<'a>,
     /// For each written declaration, in the order of the source, its item and its place there.
     pub decls: &'a [(usize, usize)],
@@ -23,42 +20,6 @@ pub struct World<'a> {
 const WRITTEN: u32 = 7;
 const LIST: u32 = 5;
 const OPTION: u32 = 6;
-
-/// How many arguments an operation takes.
-pub fn operation_arity(op: Op) -> usize {
-    match op {
-        Op::StringGet => 2,
-        _ => 1,
-    }
-}
-
-/// The place in its declaration of the constructor that a node names.
-pub fn constructor_place(scoped: &Scoped, name: ConName, node: u32) -> Option<u32> {
-    match name {
-        ConName::Named(_) => match scoped.target(node) {
-            Some(Ref::Con(_, place)) => Some(place),
-            _ => None,
-        },
-        ConName::True => Some(1),
-        ConName::False | ConName::Unit | ConName::Nil => Some(0),
-    }
-}
-
-/// The place in its record of the field that a node names.
-pub fn field_place(scoped: &Scoped, node: u32) -> Option<u32> {
-    match scoped.target(node) {
-        Some(Ref::Field(_, place)) => Some(place),
-        _ => None,
-    }
-}
-
-/// The operation that a node names.
-pub fn operation(scoped: &Scoped, node: u32) -> Option<Op> {
-    match scoped.target(node) {
-        Some(Ref::Operation(op)) => Some(op),
-        _ => None,
-    }
-}
 
 /// The declarations of an item.
 pub fn declared(kind: &ItemKind) -> &[Decl] {
@@ -91,7 +52,7 @@ fn written_fields(body: &DeclBody, place: u32) -> usize {
 impl<'a> World<'a> {
     /// How many fields the constructor has that a node names.
     pub fn field_count(&self, node: u32) -> usize {
-        match self.scoped.target(node) {
+        match target(self.tools.scoped, node) {
             Some(Ref::Con(decl, place)) => self.field_total(decl, place),
             _ => 1,
         }
@@ -109,7 +70,7 @@ impl<'a> World<'a> {
     }
 
     fn written_total(&self, item: usize, at: usize, place: u32) -> usize {
-        match self.scoped.program().items.get(item) {
+        match self.tools.scoped.program().items.get(item) {
             Some(item) => match declared(&item.kind).get(at) {
                 Some(decl) => written_fields(&decl.body, place),
                 None => 0,
@@ -139,16 +100,4 @@ impl<'a> World<'a> {
             },
         }
     }
-}
-
-/// The value of a local name, the latest where it stands several times.
-pub fn local<'a>(env: Env<'a>, name: u32) -> Option<Word<'a>> {
-    let mut rest = env;
-    while let Env::And(bound) = rest {
-        if bound.name == name {
-            return Some(bound.word);
-        }
-        rest = bound.rest;
-    }
-    None
 }

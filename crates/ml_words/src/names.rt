@@ -6,7 +6,7 @@ ghost use Rattle.ml_words.specs.Named.{targets, operation_of};
 use ml_tree::{ConName, Op, Ref, Scoped};
 
 /// What the node of this number names; `None` where it names nothing.
-#[tactic(auto, using(crate::proofs::Lookups::found_is_lookup, crate::proofs::Lookups::none_is_lookup))]
+#[tactic(auto, using(crate::proofs::Lookups::none_is_lookup))]
 pub fn target(s: &Scoped, node: u32) -> Option<Ref>
     ensures { result ≡ lookup node s.now.refs }
 {
