@@ -14,8 +14,7 @@ use Rattle.ml_meaning.specs.Tellings.{Setting, Meaning, Call, Inner, Last, or_st
 use Rattle.ml_meaning.specs.Operations.{operate, operation_arity, operator, negated}
 use Rattle.ml_meaning.specs.Evaluation as m
 use Rattle.ml_meaning.specs.Programs.{evaluate, arm_meaning, bind_meaning, calls}
-use Rattle.ml_run.specs.declared.told.Mode.{Mode}
-use Rattle.ml_run.specs.declared.told.Mode.TheVariants as mode
+use Rattle.ml_values.specs.Telling.{mode_of}
 use Rattle.ml_run.specs.declared.frame.Here.{Here}
 use Rattle.ml_run.specs.declared.frame.Parts.{Parts}
 use Rattle.ml_run.specs.declared.frame.Parts.TheVariants as parts
@@ -27,11 +26,7 @@ use Rattle.ml_run.specs.declared.frame.Frame.{Frame}
 use Rattle.ml_run.specs.declared.frame.Next.{Next}
 use Rattle.ml_run.specs.declared.frame.Next.TheVariants as next
 use Rattle.ml_run.specs.declared.frame.Step.{Step}
-use Rattle.ml_run.specs.Shown.{value, values_list, names}
-
-abbrev pub mode_of : Mode → t.Mode
-mode_of mode.Inner = t.Inner
-mode_of (mode.Last weight) = t.Last weight
+use Rattle.ml_values.specs.Shown.{value, values_list, names}
 
 module _ (s : Setting Event) where
   -- the calls of this place
@@ -120,7 +115,7 @@ module _ (s : Setting Event) where
   abbrev pub step_run : Step → Run Event Value
   step_run step = next_run step.next >>= frame_run step.frame
 
-  -- A step does what a run says: the run is what it told, and then what comes of it. Only want of
+  -- The run, with what was told before it, is what comes of the step, with what is told now. Only want of
   -- memory says nothing.
   abbrev pub Does : {F : Type 0} → List Event → List Event → Result Step F → Run Event Value → Type 0
-  Does before told result run = IfOk result (λ step. (es : List Event) × (told ≡ before ++ es) × (run ≡ after es (step_run step)))
+  Does before now result run = IfOk result (λ step. after before run ≡ after now (step_run step))

@@ -24,8 +24,8 @@ fn append<'a>(
         rest = pair.rest;
     }
     let mut all = second;
-    while let Some(word) = list.pop() {
-        all = and(world.tools.bump, word, all)?;
+    for word in list.as_slice().iter().rev() {
+        all = and(world.tools.bump, *word, all)?;
     }
     Ok(all)
 }
@@ -51,8 +51,8 @@ fn split<'a>(
         return Ok((words, rest));
     }
     let mut first = Words::Empty;
-    while let Some(word) = list.pop() {
-        first = and(world.tools.bump, word, first)?;
+    for word in list.as_slice().iter().rev() {
+        first = and(world.tools.bump, *word, first)?;
     }
     Ok((first, rest))
 }

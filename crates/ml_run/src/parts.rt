@@ -43,9 +43,9 @@ fn arranged<'a>(
         rest = pair.rest;
     }
     let mut words = Words::Empty;
-    while let Some(slot) = slots.pop() {
+    for slot in slots.as_slice().iter().rev() {
         match slot {
-            Some(word) => words = and(world.tools.bump, word, words)?,
+            Some(word) => words = and(world.tools.bump, *word, words)?,
             None => return Err(NoMemory),
         }
     }

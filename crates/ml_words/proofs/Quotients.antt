@@ -1,5 +1,6 @@
 -- The quotient of two numbers of 64 bits fits 128 bits.
 use Rattle.std.proofs.Common.{◌≡◌, ℕ, zero, suc, ◌<◌, ◌≤◌, ◌/◌, ◌^◌, ℤ, pos, negsuc, neg_ℤ, int_div, unsigned_abs, FitsSigned, w64, to_z, of_z, to_z-of_z, div-le_self, arith, refl, subst, sym, ap, ap₂, ◌∙◌}
+use Rattle.std.specs.Int.{w128}
 use Rattle.std.proofs.lemmas.Int.{fits_signed_from_abs, quot_is}
 
 neg_abs : (n : ℕ) → unsigned_abs (neg_ℤ (pos n)) ≡ n
