@@ -1,5 +1,4 @@
 pub mod Counts
 pub mod Grows
-pub mod Opening
 pub mod Tables
 pub mod Taking

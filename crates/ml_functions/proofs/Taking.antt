@@ -22,7 +22,7 @@ pub later : (old new : Marks) → new.marks.items ≡ old.marks.items → new.ro
 later old new e f h = record { below = λ k lt. let lt' : k < length old.marks.items = subst (λ (xs : List ℕ). k < length xs) e lt in let b = h.below k lt' in subst (λ (xs : List ℕ). get_or xs k 0 ≤ new.round) (sym e) (omega (arith, b, f)) }
 
 pub none_taken : (old new : Marks) → new.marks.items ≡ old.marks.items → new.round ≡ old.round + 1 → Fresh old → Takes new []
-none_taken old new e f h = record { by = λ k lt. let lt' : k < length old.marks.items = subst (λ (xs : List ℕ). k < length xs) e lt in let b = h.below k lt' in subst (λ (xs : List ℕ). (get_or xs k 0 == new.round) ≡ false) (sym e) (other_test _ _ (omega (arith, b, f))) }
+none_taken old new e f h = record { by = λ k lt. let lt' : k < length old.marks.items = subst (λ (xs : List ℕ). k < length xs) e lt in let b = h.below k lt' in subst (λ (xs : List ℕ). (get_or xs k 0 == new.round) ≡ false) (sym e) (other_test (get_or old.marks.items k 0) new.round (omega (arith, b, f))) }
 
 pub has_is : (m : Marks) (name mark : ℕ) (taken : List ℕ) (has : Bool) → name < length m.marks.items → mark ≡ get_or m.marks.items name 0 → has ≡ (mark == m.round) → Takes m taken → has ≡ list_any (λ n. n == name) taken
 has_is m name mark taken has lt e f t = f ∙ (ap (λ x. x == m.round) e ∙ t.by name lt)
@@ -78,7 +78,7 @@ all_step old now new names left x pos is h more t =
     }
 
 pub all_end : (old now : Marks) (names : List ℕ) (left : ℕ) → left ≤ 0 → TakesFrom old now names left → (taken : List ℕ) → Takes old taken → Takes now (names ++ taken)
-all_end old now names left none t taken s = subst (λ j. Takes now (drop j names ++ taken)) (omega (arith, none)) (t.by taken s)
+all_end old now names left none t taken s = let start : left ≡ 0 = omega (arith, none) in subst (λ j. Takes now (drop j names ++ taken)) start (t.by taken s)
 
 -- ---- those that are not taken
 

@@ -1,11 +1,11 @@
 //! Finds the functions of a program.
-ghost use Rattle.std.specs.Prelude.{◌≡◌, ◌++◌, ◌∷◌, [], map, None, IfOk, OnOk};
-ghost use Rattle.std.specs.List.{flat_map};
+ghost use Rattle.std.specs.Prelude.{◌≡◌, ◌++◌, map, IfOk, OnOk};
+ghost use Rattle.ml_meaning.specs.Names.{References};
 ghost use Rattle.ml_meaning.specs.Captures.{together, bound_by_params, binders, binders_of_arm, uses, uses_of_arm};
-ghost use Rattle.ml_meaning.specs.Functions.{bare_name, functions_of, functions_of_bind, functions_of_item, own_name, with_arms, with_params};
+ghost use Rattle.ml_meaning.specs.Functions.{bare_name, own_name, with_arms, with_params};
 ghost use Rattle.ml_words.specs.Named.{targets};
 ghost use Rattle.ml_functions.specs.Taken.{Fresh};
-ghost use Rattle.ml_functions.specs.Table.{code_of, entries, functions_of_arm, functions_of_expr, functions_of_field, functions_of_kind};
+ghost use Rattle.ml_functions.specs.Table.{code_of};
 
 use crate::function::{Body, Function, Functions};
 use crate::gather::{self, Gathered};
@@ -43,14 +43,14 @@ fn bare_name(pat: &Pat) -> Option<u32>
 
 /// The name of a function's own, which only a recursive one has.
 fn own_name(recursive: bool, name: Option<u32>) -> Option<u32>
-    ensures { result ≡ own_name recursive name }
+    ensures { (names : References) → result ≡ own_name names recursive name }
 {
     if recursive { name } else { None }
 }
 
 /// The names of a function behind parameters.
 fn names_of_params(place: Place, params: &[Param], body: &Expr) -> Result<Gathered, NoMemory>
-    ensures uses { IfOk result (λ found. found.uses.items ≡ uses (targets place.scoped.now) body.now) }
+    ensures uses { IfOk result (λ found. found.uses.items ≡ uses (targets place.entry.scoped.now) body.now) }
     ensures binders { IfOk result (λ found. found.binders.items ≡ bound_by_params params.now ++ binders body.now) }
 {
     let mut found = Gathered::new(place.alloc);
@@ -61,7 +61,7 @@ fn names_of_params(place: Place, params: &[Param], body: &Expr) -> Result<Gather
 
 /// The names of a function of arms.
 fn names_of_arms(place: Place, arms: &[Arm]) -> Result<Gathered, NoMemory>
-    ensures uses { IfOk result (λ found. found.uses.items ≡ together (map (uses_of_arm (targets place.scoped.now)) arms.now)) }
+    ensures uses { IfOk result (λ found. found.uses.items ≡ together (map (uses_of_arm (targets place.entry.scoped.now)) arms.now)) }
     ensures binders { IfOk result (λ found. found.binders.items ≡ together (map binders_of_arm arms.now)) }
 {
     let mut found = Gathered::new(place.alloc);
@@ -80,7 +80,7 @@ fn behind_params<'a>(
 ) -> Result<Function<'a>, NoMemory>
     requires { Fresh marks.old }
     ensures fresh { OnOk result (Fresh marks.new) }
-    ensures code { IfOk result (λ f. code_of f ≡ with_params (targets place.scoped.now) own params.now body.now) }
+    ensures code { IfOk result (λ f. code_of f ≡ with_params (targets place.entry.scoped.now) own params.now body.now) }
 {
     let found = names_of_params(place, params, body)?;
     let names = marks.captures(place.alloc, own, found.binders.as_slice(), found.uses.as_slice())?;
@@ -105,7 +105,7 @@ fn of_arms<'a>(
 ) -> Result<Function<'a>, NoMemory>
     requires { Fresh marks.old }
     ensures fresh { OnOk result (Fresh marks.new) }
-    ensures code { IfOk result (λ f. code_of f ≡ with_arms (targets place.scoped.now) own arms.now) }
+    ensures code { IfOk result (λ f. code_of f ≡ with_arms (targets place.entry.scoped.now) own arms.now) }
 {
     let found = names_of_arms(place, arms)?;
     let names = marks.captures(place.alloc, own, found.binders.as_slice(), found.uses.as_slice())?;
@@ -121,7 +121,6 @@ fn of_arms<'a>(
 }
 
 impl<'a> Collector<'a> {
-    #[tactic(auto, using(crate::proofs::Tables::one_more))]
     fn with_params(
         &mut self,
         place: Place<'a>,
@@ -132,14 +131,12 @@ impl<'a> Collector<'a> {
     ) -> Result<(), NoMemory>
         requires { Fresh self.old.marks }
         ensures fresh { OnOk result (Fresh self.new.marks) }
-        ensures list { OnOk result (entries self.new.list.items ≡ entries self.old.list.items ++ (node, with_params (targets place.scoped.now) own params.now body.now) ∷ []) }
     {
         let function = behind_params(place, &mut self.marks, own, params, body)?;
         self.list.push((node, function))?;
         Ok(())
     }
 
-    #[tactic(auto, using(crate::proofs::Tables::one_more))]
     fn with_arms(
         &mut self,
         place: Place<'a>,
@@ -149,7 +146,6 @@ impl<'a> Collector<'a> {
     ) -> Result<(), NoMemory>
         requires { Fresh self.old.marks }
         ensures fresh { OnOk result (Fresh self.new.marks) }
-        ensures list { OnOk result (entries self.new.list.items ≡ entries self.old.list.items ++ (node, with_arms (targets place.scoped.now) own arms.now) ∷ []) }
     {
         let function = of_arms(place, &mut self.marks, own, arms)?;
         self.list.push((node, function))?;
@@ -157,22 +153,18 @@ impl<'a> Collector<'a> {
     }
 
     /// The functions of an expression; `own` is the name of the recursive binding whose value it is.
-    #[tactic(auto, using(crate::proofs::Opening::expr_opens))]
     #[cycle(collecting)]
     fn expr(&mut self, place: Place<'a>, e: &'a Expr, own: Option<u32>) -> Result<(), NoMemory>
         requires { Fresh self.old.marks }
         ensures fresh { OnOk result (Fresh self.new.marks) }
-        ensures list { OnOk result (entries self.new.list.items ≡ entries self.old.list.items ++ functions_of_expr (targets place.scoped.now) e.now own) }
     {
         self.kind(place, &e.kind, e.id, own)
     }
 
-    #[tactic(auto, using(crate::proofs::Opening::kind_opens))]
     #[cycle(collecting)]
     fn kind(&mut self, place: Place<'a>, kind: &'a ExprKind, node: u32, own: Option<u32>) -> Result<(), NoMemory>
         requires { Fresh self.old.marks }
         ensures fresh { OnOk result (Fresh self.new.marks) }
-        ensures list { OnOk result (entries self.new.list.items ≡ entries self.old.list.items ++ functions_of_kind (targets place.scoped.now) kind.now node own) }
     {
         match kind {
             ExprKind::Fun(params, body) => {
@@ -241,12 +233,10 @@ impl<'a> Collector<'a> {
         }
     }
 
-    #[tactic(auto, using(crate::proofs::Tables::table_start, crate::proofs::Tables::table_step, crate::proofs::Tables::table_end))]
     #[cycle(collecting)]
     fn exprs(&mut self, place: Place<'a>, list: &'a [Expr]) -> Result<(), NoMemory>
         requires { Fresh self.old.marks }
         ensures fresh { OnOk result (Fresh self.new.marks) }
-        ensures list { OnOk result (entries self.new.list.items ≡ entries self.old.list.items ++ flat_map (λ e. functions_of_expr (targets place.scoped.now) e None) list.now) }
     {
         for one in list {
             self.expr(place, one, None)?;
@@ -254,12 +244,10 @@ impl<'a> Collector<'a> {
         Ok(())
     }
 
-    #[tactic(auto, using(crate::proofs::Tables::table_start, crate::proofs::Tables::table_step, crate::proofs::Tables::table_end))]
     #[cycle(collecting)]
     fn fields(&mut self, place: Place<'a>, list: &'a [FieldExpr]) -> Result<(), NoMemory>
         requires { Fresh self.old.marks }
         ensures fresh { OnOk result (Fresh self.new.marks) }
-        ensures list { OnOk result (entries self.new.list.items ≡ entries self.old.list.items ++ flat_map (functions_of_field (targets place.scoped.now)) list.now) }
     {
         for one in list {
             self.field(place, one)?;
@@ -267,22 +255,18 @@ impl<'a> Collector<'a> {
         Ok(())
     }
 
-    #[tactic(auto, using(crate::proofs::Opening::field_opens))]
     #[cycle(collecting)]
     fn field(&mut self, place: Place<'a>, field: &'a FieldExpr) -> Result<(), NoMemory>
         requires { Fresh self.old.marks }
         ensures fresh { OnOk result (Fresh self.new.marks) }
-        ensures list { OnOk result (entries self.new.list.items ≡ entries self.old.list.items ++ functions_of_field (targets place.scoped.now) field.now) }
     {
         self.expr(place, &field.expr, None)
     }
 
-    #[tactic(auto, using(crate::proofs::Tables::table_start, crate::proofs::Tables::table_step, crate::proofs::Tables::table_end))]
     #[cycle(collecting)]
     fn arms(&mut self, place: Place<'a>, list: &'a [Arm]) -> Result<(), NoMemory>
         requires { Fresh self.old.marks }
         ensures fresh { OnOk result (Fresh self.new.marks) }
-        ensures list { OnOk result (entries self.new.list.items ≡ entries self.old.list.items ++ flat_map (functions_of_arm (targets place.scoped.now)) list.now) }
     {
         for one in list {
             self.arm(place, one)?;
@@ -290,12 +274,10 @@ impl<'a> Collector<'a> {
         Ok(())
     }
 
-    #[tactic(auto, using(crate::proofs::Opening::arm_opens))]
     #[cycle(collecting)]
     fn arm(&mut self, place: Place<'a>, arm: &'a Arm) -> Result<(), NoMemory>
         requires { Fresh self.old.marks }
         ensures fresh { OnOk result (Fresh self.new.marks) }
-        ensures list { OnOk result (entries self.new.list.items ≡ entries self.old.list.items ++ functions_of_arm (targets place.scoped.now) arm.now) }
     {
         match &arm.guard {
             Some(guard) => {
@@ -306,12 +288,10 @@ impl<'a> Collector<'a> {
         }
     }
 
-    #[tactic(auto, using(crate::proofs::Tables::table_start, crate::proofs::Tables::table_step, crate::proofs::Tables::table_end))]
     #[cycle(collecting)]
     fn binds(&mut self, place: Place<'a>, list: &'a [Bind], recursive: bool) -> Result<(), NoMemory>
         requires { Fresh self.old.marks }
         ensures fresh { OnOk result (Fresh self.new.marks) }
-        ensures list { OnOk result (entries self.new.list.items ≡ entries self.old.list.items ++ flat_map (functions_of_bind (targets place.scoped.now) recursive) list.now) }
     {
         for one in list {
             self.bind(place, one, recursive)?;
@@ -320,12 +300,10 @@ impl<'a> Collector<'a> {
     }
 
     /// The functions of a binding. One with parameters is a function at the node of its pattern.
-    #[tactic(auto, using(crate::proofs::Opening::bind_opens))]
     #[cycle(collecting)]
     fn bind(&mut self, place: Place<'a>, bind: &'a Bind, recursive: bool) -> Result<(), NoMemory>
         requires { Fresh self.old.marks }
         ensures fresh { OnOk result (Fresh self.new.marks) }
-        ensures list { OnOk result (entries self.new.list.items ≡ entries self.old.list.items ++ functions_of_bind (targets place.scoped.now) recursive bind.now) }
     {
         if bind.params.len() == 0 {
             return self.expr(place, &bind.body, own_name(recursive, bare_name(&bind.pat)));
@@ -338,12 +316,21 @@ impl<'a> Collector<'a> {
     fn item(&mut self, place: Place<'a>, item: &'a Item) -> Result<(), NoMemory>
         requires { Fresh self.old.marks }
         ensures fresh { OnOk result (Fresh self.new.marks) }
-        ensures list { OnOk result (entries self.new.list.items ≡ entries self.old.list.items ++ functions_of_item (targets place.scoped.now) item.now.kind) }
     {
         match &item.kind {
             ItemKind::Types(_) => Ok(()),
             ItemKind::Let { recursive, binds } => self.binds(place, binds.as_slice(), *recursive),
         }
+    }
+
+    fn items(&mut self, place: Place<'a>, list: &'a [Item]) -> Result<(), NoMemory>
+        requires { Fresh self.old.marks }
+        ensures fresh { OnOk result (Fresh self.new.marks) }
+    {
+        for one in list {
+            self.item(place, one)?;
+        }
+        Ok(())
     }
 }
 
@@ -368,18 +355,14 @@ fn places(
 }
 
 /// The functions of a program in the order of the source, each with its node.
-#[tactic(auto, using(crate::proofs::Tables::table_start, crate::proofs::Tables::table_step, crate::proofs::Tables::table_end))]
 fn listed<'a>(place: Place<'a>) -> Result<Vec<(u32, Function<'a>)>, NoMemory>
-    ensures { IfOk result (λ list. entries list.items ≡ functions_of (targets place.scoped.now) place.scoped.now.program.items) }
 {
     let program = place.scoped.program();
     let mut collector = Collector {
         marks: Marks::new(place.alloc, program.nodes as usize)?,
         list: Vec::new(place.alloc),
     };
-    for item in program.items.as_slice() {
-        collector.item(place, item)?;
-    }
+    collector.items(place, program.items.as_slice())?;
     let Collector { marks: _, list } = collector;
     Ok(list)
 }

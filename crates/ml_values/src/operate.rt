@@ -80,7 +80,7 @@ fn operate_on<'a>(
     op: Op,
     word: Word<'a>,
 ) -> Result<Given<'a>, NoMemory>
-    ensures { Plainly (λ s. Gives told.old.items told.new.items result (operate Event s node op (value word ∷ []))) }
+    ensures { Plainly (λ s. Gives told.old.items told.new.items result (operate Event s node op (value word.entry ∷ []))) }
 {
     match (op, word) {
         (Op::PrintString, Word::Bytes(bytes)) => written(told, 1, bytes),
@@ -122,7 +122,7 @@ pub fn operate<'a>(
     op: Op,
     args: Words<'a>,
 ) -> Result<Given<'a>, NoMemory>
-    ensures { Plainly (λ s. Gives told.old.items told.new.items result (operate Event s node op (values_list args))) }
+    ensures { Plainly (λ s. Gives told.old.items told.new.items result (operate Event s node op (values_list args.entry))) }
 {
     let Words::And(pair) = args else {
         return Err(NoMemory);
@@ -142,7 +142,7 @@ fn index<'a>(
     text: Word<'a>,
     at: Word<'a>,
 ) -> Result<Given<'a>, NoMemory>
-    ensures { Plainly (λ s. Gives told.old.items told.new.items result (operate Event s node op (value text ∷ (value at ∷ [])))) }
+    ensures { Plainly (λ s. Gives told.old.items told.new.items result (operate Event s node op (value text.entry ∷ (value at.entry ∷ [])))) }
 {
     match (op, text, at) {
         (Op::StringGet, Word::Bytes(bytes), Word::Number(z)) => character(told, byte_at(bytes, z)),
@@ -152,7 +152,7 @@ fn index<'a>(
 
 /// How two values stand to one another; `None` where they cannot be compared.
 fn order(one: Word, other: Word) -> Option<Ordering>
-    ensures { result ≡ value_order (value one) (value other) }
+    ensures { result ≡ value_order (value one.entry) (value other.entry) }
 {
     match (one, other) {
         (Word::Number(a), Word::Number(b)) => Some(a.cmp(&b)),
@@ -186,7 +186,7 @@ fn computed<'a>(
     one: Word<'a>,
     other: Word<'a>,
 ) -> Result<Given<'a>, NoMemory>
-    ensures { Plainly (λ s. Gives told.old.items told.new.items result (computed Event s op (value one) (value other))) }
+    ensures { Plainly (λ s. Gives told.old.items told.new.items result (computed Event s op (value one.entry) (value other.entry))) }
 {
     match (one, other) {
         (Word::Number(a), Word::Number(b)) => match arithmetic(op, a, b) {
@@ -204,7 +204,7 @@ fn joined<'a>(
     one: Word<'a>,
     other: Word<'a>,
 ) -> Result<Given<'a>, NoMemory>
-    ensures { Plainly (λ s. Gives told.old.items told.new.items result (joined Event s node (value one) (value other))) }
+    ensures { Plainly (λ s. Gives told.old.items told.new.items result (joined Event s node (value one.entry) (value other.entry))) }
 {
     match (one, other) {
         (Word::Bytes(a), Word::Bytes(b)) => {
@@ -224,7 +224,7 @@ pub fn operator<'a>(
     one: Word<'a>,
     other: Word<'a>,
 ) -> Result<Given<'a>, NoMemory>
-    ensures { Plainly (λ s. Gives told.old.items told.new.items result (operator Event s node op (value one) (value other))) }
+    ensures { Plainly (λ s. Gives told.old.items told.new.items result (operator Event s node op (value one.entry) (value other.entry))) }
 {
     if op == BinOp::Join {
         return joined(tools, told, node, one, other);
@@ -240,7 +240,7 @@ pub fn operator<'a>(
 
 /// The negative of a number.
 pub fn negated<'a>(told: &mut Vec<Event>, word: Word<'a>) -> Result<Given<'a>, NoMemory>
-    ensures { Plainly (λ s. Gives told.old.items told.new.items result (negated Event s (value word))) }
+    ensures { Plainly (λ s. Gives told.old.items told.new.items result (negated Event s (value word.entry))) }
 {
     computed(told, BinOp::Sub, Word::Number(0), word)
 }

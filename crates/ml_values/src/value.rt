@@ -65,7 +65,7 @@ pub struct Bound<'a> {
 
 /// The value before the others.
 pub fn and<'a>(bump: &'a Bump, first: Word<'a>, rest: Words<'a>) -> Result<Words<'a>, NoMemory>
-    ensures { IfOk result (λ words. values words ≡ value_and (value first) (values rest)) }
+    ensures { IfOk result (λ words. values words ≡ value_and (value first.entry) (values rest.entry)) }
 {
     let pair: &'a Pair<'a> = bump.try_alloc(Pair { first, rest })?;
     Ok(Words::And(pair))
@@ -78,7 +78,7 @@ pub fn bind<'a>(
     word: Word<'a>,
     rest: Env<'a>,
 ) -> Result<Env<'a>, NoMemory>
-    ensures { IfOk result (λ env. names env ≡ (name, value word) ∷ names rest) }
+    ensures { IfOk result (λ env. names env ≡ (name, value word.entry) ∷ names rest.entry) }
 {
     let bound: &'a Bound<'a> = bump.try_alloc(Bound { name, word, rest })?;
     Ok(Env::And(bound))
