@@ -1,4 +1,5 @@
 pub mod Counts
 pub mod Grows
+pub mod Opening
 pub mod Tables
 pub mod Taking

@@ -1,11 +1,12 @@
 //! Finds the functions of a program.
-ghost use Rattle.std.specs.Prelude.{◌≡◌, ◌++◌, map, IfOk, OnOk};
+ghost use Rattle.std.specs.Prelude.{◌≡◌, ◌++◌, ◌∷◌, [], map, None, IfOk, OnOk};
+ghost use Rattle.std.specs.List.{flat_map};
 ghost use Rattle.ml_meaning.specs.Names.{References};
 ghost use Rattle.ml_meaning.specs.Captures.{together, bound_by_params, binders, binders_of_arm, uses, uses_of_arm};
-ghost use Rattle.ml_meaning.specs.Functions.{bare_name, own_name, with_arms, with_params};
+ghost use Rattle.ml_meaning.specs.Functions.{bare_name, functions_of, functions_of_bind, functions_of_item, own_name, with_arms, with_params};
 ghost use Rattle.ml_words.specs.Named.{targets};
 ghost use Rattle.ml_functions.specs.Taken.{Fresh};
-ghost use Rattle.ml_functions.specs.Table.{code_of};
+ghost use Rattle.ml_functions.specs.Table.{code_of, entries, functions_of_arm, functions_of_expr, functions_of_field, functions_of_kind};
 
 use crate::function::{Body, Function, Functions};
 use crate::gather::{self, Gathered};
@@ -121,6 +122,7 @@ fn of_arms<'a>(
 }
 
 impl<'a> Collector<'a> {
+    #[tactic(auto, using(crate::proofs::Tables::one_more))]
     fn with_params(
         &mut self,
         place: Place<'a>,
@@ -131,12 +133,14 @@ impl<'a> Collector<'a> {
     ) -> Result<(), NoMemory>
         requires { Fresh self.old.marks }
         ensures fresh { OnOk result (Fresh self.new.marks) }
+        ensures list { OnOk result (entries self.new.list.items ≡ entries self.old.list.items ++ (node, with_params (targets place.entry.scoped.now) own params.now body.now) ∷ []) }
     {
         let function = behind_params(place, &mut self.marks, own, params, body)?;
         self.list.push((node, function))?;
         Ok(())
     }
 
+    #[tactic(auto, using(crate::proofs::Tables::one_more))]
     fn with_arms(
         &mut self,
         place: Place<'a>,
@@ -146,6 +150,7 @@ impl<'a> Collector<'a> {
     ) -> Result<(), NoMemory>
         requires { Fresh self.old.marks }
         ensures fresh { OnOk result (Fresh self.new.marks) }
+        ensures list { OnOk result (entries self.new.list.items ≡ entries self.old.list.items ++ (node, with_arms (targets place.entry.scoped.now) own arms.now) ∷ []) }
     {
         let function = of_arms(place, &mut self.marks, own, arms)?;
         self.list.push((node, function))?;
@@ -153,18 +158,22 @@ impl<'a> Collector<'a> {
     }
 
     /// The functions of an expression; `own` is the name of the recursive binding whose value it is.
+    #[tactic(auto, using(crate::proofs::Opening::expr_opens))]
     #[cycle(collecting)]
     fn expr(&mut self, place: Place<'a>, e: &'a Expr, own: Option<u32>) -> Result<(), NoMemory>
         requires { Fresh self.old.marks }
         ensures fresh { OnOk result (Fresh self.new.marks) }
+        ensures list { OnOk result (entries self.new.list.items ≡ entries self.old.list.items ++ functions_of_expr (targets place.entry.scoped.now) e.now own) }
     {
         self.kind(place, &e.kind, e.id, own)
     }
 
+    #[tactic(auto, using(crate::proofs::Opening::kind_opens))]
     #[cycle(collecting)]
     fn kind(&mut self, place: Place<'a>, kind: &'a ExprKind, node: u32, own: Option<u32>) -> Result<(), NoMemory>
         requires { Fresh self.old.marks }
         ensures fresh { OnOk result (Fresh self.new.marks) }
+        ensures list { OnOk result (entries self.new.list.items ≡ entries self.old.list.items ++ functions_of_kind (targets place.entry.scoped.now) kind.now node own) }
     {
         match kind {
             ExprKind::Fun(params, body) => {
@@ -233,10 +242,12 @@ impl<'a> Collector<'a> {
         }
     }
 
+    #[tactic(auto, using(crate::proofs::Tables::table_start, crate::proofs::Tables::table_step, crate::proofs::Tables::table_end))]
     #[cycle(collecting)]
     fn exprs(&mut self, place: Place<'a>, list: &'a [Expr]) -> Result<(), NoMemory>
         requires { Fresh self.old.marks }
         ensures fresh { OnOk result (Fresh self.new.marks) }
+        ensures list { OnOk result (entries self.new.list.items ≡ entries self.old.list.items ++ flat_map (λ e. functions_of_expr (targets place.entry.scoped.now) e None) list.now) }
     {
         for one in list {
             self.expr(place, one, None)?;
@@ -244,10 +255,12 @@ impl<'a> Collector<'a> {
         Ok(())
     }
 
+    #[tactic(auto, using(crate::proofs::Tables::table_start, crate::proofs::Tables::table_step, crate::proofs::Tables::table_end))]
     #[cycle(collecting)]
     fn fields(&mut self, place: Place<'a>, list: &'a [FieldExpr]) -> Result<(), NoMemory>
         requires { Fresh self.old.marks }
         ensures fresh { OnOk result (Fresh self.new.marks) }
+        ensures list { OnOk result (entries self.new.list.items ≡ entries self.old.list.items ++ flat_map (functions_of_field (targets place.entry.scoped.now)) list.now) }
     {
         for one in list {
             self.field(place, one)?;
@@ -255,18 +268,22 @@ impl<'a> Collector<'a> {
         Ok(())
     }
 
+    #[tactic(auto, using(crate::proofs::Opening::field_opens))]
     #[cycle(collecting)]
     fn field(&mut self, place: Place<'a>, field: &'a FieldExpr) -> Result<(), NoMemory>
         requires { Fresh self.old.marks }
         ensures fresh { OnOk result (Fresh self.new.marks) }
+        ensures list { OnOk result (entries self.new.list.items ≡ entries self.old.list.items ++ functions_of_field (targets place.entry.scoped.now) field.now) }
     {
         self.expr(place, &field.expr, None)
     }
 
+    #[tactic(auto, using(crate::proofs::Tables::table_start, crate::proofs::Tables::table_step, crate::proofs::Tables::table_end))]
     #[cycle(collecting)]
     fn arms(&mut self, place: Place<'a>, list: &'a [Arm]) -> Result<(), NoMemory>
         requires { Fresh self.old.marks }
         ensures fresh { OnOk result (Fresh self.new.marks) }
+        ensures list { OnOk result (entries self.new.list.items ≡ entries self.old.list.items ++ flat_map (functions_of_arm (targets place.entry.scoped.now)) list.now) }
     {
         for one in list {
             self.arm(place, one)?;
@@ -274,10 +291,12 @@ impl<'a> Collector<'a> {
         Ok(())
     }
 
+    #[tactic(auto, using(crate::proofs::Opening::arm_opens))]
     #[cycle(collecting)]
     fn arm(&mut self, place: Place<'a>, arm: &'a Arm) -> Result<(), NoMemory>
         requires { Fresh self.old.marks }
         ensures fresh { OnOk result (Fresh self.new.marks) }
+        ensures list { OnOk result (entries self.new.list.items ≡ entries self.old.list.items ++ functions_of_arm (targets place.entry.scoped.now) arm.now) }
     {
         match &arm.guard {
             Some(guard) => {
@@ -288,10 +307,12 @@ impl<'a> Collector<'a> {
         }
     }
 
+    #[tactic(auto, using(crate::proofs::Tables::table_start, crate::proofs::Tables::table_step, crate::proofs::Tables::table_end))]
     #[cycle(collecting)]
     fn binds(&mut self, place: Place<'a>, list: &'a [Bind], recursive: bool) -> Result<(), NoMemory>
         requires { Fresh self.old.marks }
         ensures fresh { OnOk result (Fresh self.new.marks) }
+        ensures list { OnOk result (entries self.new.list.items ≡ entries self.old.list.items ++ flat_map (functions_of_bind (targets place.entry.scoped.now) recursive) list.now) }
     {
         for one in list {
             self.bind(place, one, recursive)?;
@@ -300,10 +321,12 @@ impl<'a> Collector<'a> {
     }
 
     /// The functions of a binding. One with parameters is a function at the node of its pattern.
+    #[tactic(auto, using(crate::proofs::Opening::bind_opens))]
     #[cycle(collecting)]
     fn bind(&mut self, place: Place<'a>, bind: &'a Bind, recursive: bool) -> Result<(), NoMemory>
         requires { Fresh self.old.marks }
         ensures fresh { OnOk result (Fresh self.new.marks) }
+        ensures list { OnOk result (entries self.new.list.items ≡ entries self.old.list.items ++ functions_of_bind (targets place.entry.scoped.now) recursive bind.now) }
     {
         if bind.params.len() == 0 {
             return self.expr(place, &bind.body, own_name(recursive, bare_name(&bind.pat)));
@@ -316,6 +339,7 @@ impl<'a> Collector<'a> {
     fn item(&mut self, place: Place<'a>, item: &'a Item) -> Result<(), NoMemory>
         requires { Fresh self.old.marks }
         ensures fresh { OnOk result (Fresh self.new.marks) }
+        ensures list { OnOk result (entries self.new.list.items ≡ entries self.old.list.items ++ functions_of_item (targets place.entry.scoped.now) item.now.kind) }
     {
         match &item.kind {
             ItemKind::Types(_) => Ok(()),
@@ -326,6 +350,7 @@ impl<'a> Collector<'a> {
     fn items(&mut self, place: Place<'a>, list: &'a [Item]) -> Result<(), NoMemory>
         requires { Fresh self.old.marks }
         ensures fresh { OnOk result (Fresh self.new.marks) }
+        ensures list { OnOk result (entries self.new.list.items ≡ entries self.old.list.items ++ functions_of (targets place.entry.scoped.now) list.now) }
     {
         for one in list {
             self.item(place, one)?;
@@ -356,6 +381,7 @@ fn places(
 
 /// The functions of a program in the order of the source, each with its node.
 fn listed<'a>(place: Place<'a>) -> Result<Vec<(u32, Function<'a>)>, NoMemory>
+    ensures { IfOk result (λ list. entries list.items ≡ functions_of (targets place.entry.scoped.now) place.entry.scoped.now.program.items) }
 {
     let program = place.scoped.program();
     let mut collector = Collector {
