@@ -1,10 +1,1 @@
-mod Accepts
-mod Atoms
-mod Deep
-mod Growth
-mod Items
-mod Levels
-mod OpenForms
-mod Programs
-mod Shorter
-mod Unique
+mod Ranks

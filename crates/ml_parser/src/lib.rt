@@ -1,9 +1,19 @@
-//! The grammar of the language: which syntax tree a list of tokens is, as a relation with its laws.
-//!
-//! The readers that make the tree stand on it.
+//! The parser: from the tokens of a source to its syntax tree, by recursive descent.
 #![tactic(auto)]
 
-pub mod laws;
-mod looks;
+mod arms;
+mod atom;
+mod bind;
+mod expression;
+mod item;
+mod list;
+mod operand;
+mod overwrite;
+mod prelude;
+mod program;
+mod record;
+mod simple;
 
-pub use looks::{AtomLead, ItemLead, Joint, Lead, Leaf, ListKind, Suffix};
+pub use ml_cursor::ParseErr;
+pub use prelude::PRELUDE;
+pub use program::parse;

@@ -1,0 +1,11 @@
+pub mod Accepts
+pub mod Atoms
+pub mod Deep
+pub mod Growth
+pub mod Handed
+pub mod Items
+pub mod Levels
+pub mod OpenForms
+pub mod Programs
+pub mod Shorter
+pub mod Unique

@@ -1,0 +1,9 @@
+use Rattle.std.proofs.Common.{length, drop}
+use Rattle.ml_grammar.proofs.Programs.{ItemsUpTo}
+use Rattle.ml_parser.proofs.item.read_items.Given as goal
+
+abbrev pub invariant-items : goal.invariant-items
+invariant-items l = ItemsUpTo l.source.text l.source.tokens l.list (drop l.at l.source.tokens)
+
+abbrev pub decreases-items : goal.decreases-items
+decreases-items l = length (drop l.at l.source.tokens)

@@ -1,5 +1,0 @@
-use Rattle.ml_parser.proofs.Programs.{one_program}
-use Rattle.ml_parser.proofs.laws.at_most_one_program.Goals as goal
-
-pub returns : goal.returns
-returns c = one_program

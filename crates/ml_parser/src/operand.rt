@@ -1,0 +1,260 @@
+//! Operands: open forms, prefixes, and what begins with an atom.
+ghost use Rattle.std.specs.Prelude.{drop, All, IfOk, IfErr};
+ghost use Rattle.ml_lexer.specs.Tokens.{IsSound};
+ghost use Rattle.ml_cursor.specs.Fronts.{front};
+ghost use Rattle.ml_cursor.specs.Says.{Says};
+ghost use Rattle.ml_grammar.specs.declared.looks.Lead.{Lead};
+ghost use Rattle.ml_grammar.specs.Looks.{is_else};
+ghost use Rattle.ml_grammar.specs.Grammar.{operators, Reads, OperandBy, ElseBy};
+ghost use Rattle.ml_grammar.specs.Readings.{IsRead, AreDeep, Branches};
+
+use crate::arms::read_arms;
+use ml_parse_forms::begins::lead_at;
+use crate::bind::read_binds;
+use crate::expression::{read_behind, read_parts, read_until};
+use ml_parse_forms::found::{Found, just, nothing, open_form, pair};
+use ml_parse_forms::forms::{borrow, choice, fun, function, let_in, matching};
+use ml_grammar::{Lead, ListKind};
+use ml_parse_forms::make::{exclave, minus, worded};
+use crate::overwrite::{read_block, read_overwrite};
+use ml_parse_forms::source::Source;
+use ml_parse_forms::target::{read_all_params, read_borrowed};
+use ml_cursor::{Front, ParseErr, accept};
+use ml_tree::{Expr, Words};
+use std::alloc::Global;
+
+/// An operand of an operator: an open form, a prefix with its operand, or an application. An open
+/// form takes all tokens that can belong to it, so it is the last operand.
+#[cycle(expressions)]
+#[tactic(auto, using(ml_grammar::proofs::OpenForms::operand_read, ml_grammar::proofs::OpenForms::operand_deep, ml_grammar::proofs::OpenForms::application_read, ml_grammar::proofs::OpenForms::application_deep, ml_grammar::proofs::OpenForms::constructor_read, ml_grammar::proofs::OpenForms::constructor_deep))]
+pub fn read_operand(
+    alloc: Global,
+    source: &Source,
+    at: &mut usize,
+    left: u32,
+) -> Result<Found<Expr>, ParseErr>
+    requires texts { All (IsSound source.now.text.now) source.now.tokens.now }
+    ensures ok { IfOk result (λ f. IsRead (Reads source.now.text.now (operators 0) (drop at.old source.now.tokens.now)) left f.tree f.depth (drop at.new source.now.tokens.now)) }
+    ensures err { IfErr result (Says source.now.tokens.now (AreDeep (Reads source.now.text.now (operators 0) (drop at.old source.now.tokens.now)) left)) }
+{
+    match lead_at(source.tokens, *at) {
+        Lead::Let => Ok(read_let(alloc, source, at, left)?),
+        Lead::Borrow => Ok(read_borrow(alloc, source, at, left)?),
+        Lead::Match => Ok(read_match(alloc, source, at, left)?),
+        Lead::Function => Ok(read_function(alloc, source, at, left)?),
+        Lead::Fun => Ok(read_fun(alloc, source, at, left)?),
+        Lead::If => Ok(read_if(alloc, source, at, left)?),
+        Lead::Exclave => Ok(read_exclave(alloc, source, at, left)?),
+        Lead::Minus => Ok(read_minus(alloc, source, at, left)?),
+        Lead::Word(words) => Ok(read_worded(words, alloc, source, at, left)?),
+        Lead::Overwrite => Ok(read_overwrite(alloc, source, at, left)?),
+        Lead::Constructor => Ok(read_block(alloc, source, at, left)?),
+        Lead::Application => Ok(read_parts(ListKind::Arguments, alloc, source, at, left)?),
+    }
+}
+
+/// `let [rec] bind (and bind)* in seq`
+#[cycle(expressions)]
+#[tactic(auto, using(ml_grammar::proofs::OpenForms::let_deep, ml_grammar::proofs::OpenForms::let_deep_behind, ml_grammar::proofs::OpenForms::let_read, ml_grammar::proofs::OpenForms::no_room, ml_grammar::proofs::Accepts::rec_place, ml_grammar::proofs::Accepts::rec_flag))]
+fn read_let(
+    alloc: Global,
+    source: &Source,
+    at: &mut usize,
+    left: u32,
+) -> Result<Found<Expr>, ParseErr>
+    requires texts { All (IsSound source.now.text.now) source.now.tokens.now }
+    ensures ok { IfOk result (λ f. IsRead (OperandBy source.now.text.now Lead.Let (drop at.old source.now.tokens.now)) left f.tree f.depth (drop at.new source.now.tokens.now)) }
+    ensures err { IfErr result (Says source.now.tokens.now (AreDeep (OperandBy source.now.text.now Lead.Let (drop at.old source.now.tokens.now)) left)) }
+{
+    let head = open_form(source.tokens, at, left)?;
+    let recursive = accept(source.tokens, at, Front::Rec);
+    let binds = read_binds(alloc, source, at, head.below)?;
+    let body = read_behind(Front::In, alloc, source, at, head.below)?;
+    Ok(let_in(alloc, head, recursive, binds, body)?)
+}
+
+/// `let borrow_ name = name in seq`
+#[cycle(expressions)]
+#[tactic(auto, using(ml_grammar::proofs::OpenForms::borrow_deep, ml_grammar::proofs::OpenForms::borrow_deep_behind, ml_grammar::proofs::OpenForms::borrow_read, ml_grammar::proofs::OpenForms::no_room))]
+fn read_borrow(
+    alloc: Global,
+    source: &Source,
+    at: &mut usize,
+    left: u32,
+) -> Result<Found<Expr>, ParseErr>
+    requires texts { All (IsSound source.now.text.now) source.now.tokens.now }
+    ensures ok { IfOk result (λ f. IsRead (OperandBy source.now.text.now Lead.Borrow (drop at.old source.now.tokens.now)) left f.tree f.depth (drop at.new source.now.tokens.now)) }
+    ensures err { IfErr result (Says source.now.tokens.now (AreDeep (OperandBy source.now.text.now Lead.Borrow (drop at.old source.now.tokens.now)) left)) }
+{
+    let head = open_form(source.tokens, at, left)?;
+    let names = read_borrowed(source.tokens, at)?;
+    let body = read_behind(Front::In, alloc, source, at, head.below)?;
+    Ok(borrow(alloc, head, names, body)?)
+}
+
+/// `match seq with arms`
+#[cycle(expressions)]
+#[tactic(auto, using(ml_grammar::proofs::OpenForms::match_deep, ml_grammar::proofs::OpenForms::match_deep_behind, ml_grammar::proofs::OpenForms::match_read, ml_grammar::proofs::OpenForms::no_room))]
+fn read_match(
+    alloc: Global,
+    source: &Source,
+    at: &mut usize,
+    left: u32,
+) -> Result<Found<Expr>, ParseErr>
+    requires texts { All (IsSound source.now.text.now) source.now.tokens.now }
+    ensures ok { IfOk result (λ f. IsRead (OperandBy source.now.text.now Lead.Match (drop at.old source.now.tokens.now)) left f.tree f.depth (drop at.new source.now.tokens.now)) }
+    ensures err { IfErr result (Says source.now.tokens.now (AreDeep (OperandBy source.now.text.now Lead.Match (drop at.old source.now.tokens.now)) left)) }
+{
+    let head = open_form(source.tokens, at, left)?;
+    let scrutinee = read_until(Front::With, alloc, source, at, head.below)?;
+    let arms = read_arms(alloc, source, at, head.below)?;
+    Ok(matching(alloc, head, scrutinee, arms)?)
+}
+
+/// `function arms`
+#[cycle(expressions)]
+#[tactic(auto, using(ml_grammar::proofs::OpenForms::function_deep, ml_grammar::proofs::OpenForms::function_read, ml_grammar::proofs::OpenForms::no_room))]
+fn read_function(
+    alloc: Global,
+    source: &Source,
+    at: &mut usize,
+    left: u32,
+) -> Result<Found<Expr>, ParseErr>
+    requires texts { All (IsSound source.now.text.now) source.now.tokens.now }
+    ensures ok { IfOk result (λ f. IsRead (OperandBy source.now.text.now Lead.Function (drop at.old source.now.tokens.now)) left f.tree f.depth (drop at.new source.now.tokens.now)) }
+    ensures err { IfErr result (Says source.now.tokens.now (AreDeep (OperandBy source.now.text.now Lead.Function (drop at.old source.now.tokens.now)) left)) }
+{
+    let head = open_form(source.tokens, at, left)?;
+    let arms = read_arms(alloc, source, at, head.below)?;
+    Ok(function(head, arms))
+}
+
+/// `fun param+ -> seq`
+#[cycle(expressions)]
+#[tactic(auto, using(ml_grammar::proofs::OpenForms::fun_deep, ml_grammar::proofs::OpenForms::fun_deep_behind, ml_grammar::proofs::OpenForms::fun_read, ml_grammar::proofs::OpenForms::no_room))]
+fn read_fun(
+    alloc: Global,
+    source: &Source,
+    at: &mut usize,
+    left: u32,
+) -> Result<Found<Expr>, ParseErr>
+    requires texts { All (IsSound source.now.text.now) source.now.tokens.now }
+    ensures ok { IfOk result (λ f. IsRead (OperandBy source.now.text.now Lead.Fun (drop at.old source.now.tokens.now)) left f.tree f.depth (drop at.new source.now.tokens.now)) }
+    ensures err { IfErr result (Says source.now.tokens.now (AreDeep (OperandBy source.now.text.now Lead.Fun (drop at.old source.now.tokens.now)) left)) }
+{
+    let head = open_form(source.tokens, at, left)?;
+    let params = read_all_params(alloc, source, at, head.below)?;
+    let body = read_behind(Front::Arrow, alloc, source, at, head.below)?;
+    Ok(fun(alloc, head, params, body)?)
+}
+
+/// `if seq then expr [else expr]`
+#[cycle(expressions)]
+#[tactic(auto, using(ml_grammar::proofs::OpenForms::if_deep, ml_grammar::proofs::OpenForms::if_deep_behind, ml_grammar::proofs::OpenForms::if_read, ml_grammar::proofs::OpenForms::no_room))]
+fn read_if(
+    alloc: Global,
+    source: &Source,
+    at: &mut usize,
+    left: u32,
+) -> Result<Found<Expr>, ParseErr>
+    requires texts { All (IsSound source.now.text.now) source.now.tokens.now }
+    ensures ok { IfOk result (λ f. IsRead (OperandBy source.now.text.now Lead.If (drop at.old source.now.tokens.now)) left f.tree f.depth (drop at.new source.now.tokens.now)) }
+    ensures err { IfErr result (Says source.now.tokens.now (AreDeep (OperandBy source.now.text.now Lead.If (drop at.old source.now.tokens.now)) left)) }
+{
+    let head = open_form(source.tokens, at, left)?;
+    let condition = read_until(Front::Then, alloc, source, at, head.below)?;
+    let branches = read_branches(alloc, source, at, head.below)?;
+    Ok(choice(alloc, head, condition, branches)?)
+}
+
+/// `expr [else expr]`
+#[cycle(expressions)]
+#[tactic(auto, using(ml_grammar::proofs::Items::branches_deep, ml_grammar::proofs::Items::branches_deep_behind, ml_grammar::proofs::Items::branches_read))]
+fn read_branches(
+    alloc: Global,
+    source: &Source,
+    at: &mut usize,
+    left: u32,
+) -> Result<Found<(Expr, Option<Expr>)>, ParseErr>
+    requires texts { All (IsSound source.now.text.now) source.now.tokens.now }
+    ensures ok { IfOk result (λ f. IsRead (Branches source.now.text.now (drop at.old source.now.tokens.now)) left f.tree f.depth (drop at.new source.now.tokens.now)) }
+    ensures err { IfErr result (Says source.now.tokens.now (AreDeep (Branches source.now.text.now (drop at.old source.now.tokens.now)) left)) }
+{
+    let then = read_parts(ListKind::Parts, alloc, source, at, left)?;
+    let other = read_else(alloc, source, at, left)?;
+    Ok(pair(then, other))
+}
+
+/// `[else expr]`
+#[cycle(expressions)]
+#[tactic(auto, using(ml_grammar::proofs::Items::else_none, ml_grammar::proofs::Items::else_read, ml_grammar::proofs::Items::else_deep, ml_grammar::proofs::Accepts::else_flag))]
+fn read_else(
+    alloc: Global,
+    source: &Source,
+    at: &mut usize,
+    left: u32,
+) -> Result<Found<Option<Expr>>, ParseErr>
+    requires texts { All (IsSound source.now.text.now) source.now.tokens.now }
+    ensures ok { IfOk result (λ f. IsRead (ElseBy source.now.text.now (is_else (front (drop at.old source.now.tokens.now))) (drop at.old source.now.tokens.now)) left f.tree f.depth (drop at.new source.now.tokens.now)) }
+    ensures err { IfErr result (Says source.now.tokens.now (AreDeep (ElseBy source.now.text.now (is_else (front (drop at.old source.now.tokens.now))) (drop at.old source.now.tokens.now)) left)) }
+{
+    if !accept(source.tokens, at, Front::Else) {
+        return Ok(nothing());
+    }
+    Ok(just(read_parts(ListKind::Parts, alloc, source, at, left)?))
+}
+
+/// `exclave_ seq`
+#[cycle(expressions)]
+#[tactic(auto, using(ml_grammar::proofs::OpenForms::exclave_deep, ml_grammar::proofs::OpenForms::exclave_read, ml_grammar::proofs::OpenForms::no_room))]
+fn read_exclave(
+    alloc: Global,
+    source: &Source,
+    at: &mut usize,
+    left: u32,
+) -> Result<Found<Expr>, ParseErr>
+    requires texts { All (IsSound source.now.text.now) source.now.tokens.now }
+    ensures ok { IfOk result (λ f. IsRead (OperandBy source.now.text.now Lead.Exclave (drop at.old source.now.tokens.now)) left f.tree f.depth (drop at.new source.now.tokens.now)) }
+    ensures err { IfErr result (Says source.now.tokens.now (AreDeep (OperandBy source.now.text.now Lead.Exclave (drop at.old source.now.tokens.now)) left)) }
+{
+    let head = open_form(source.tokens, at, left)?;
+    let body = read_parts(ListKind::Statements, alloc, source, at, head.below)?;
+    Ok(exclave(alloc, head, body)?)
+}
+
+/// `-` and its operand.
+#[cycle(expressions)]
+#[tactic(auto, using(ml_grammar::proofs::OpenForms::minus_deep, ml_grammar::proofs::OpenForms::minus_read, ml_grammar::proofs::OpenForms::no_room))]
+fn read_minus(
+    alloc: Global,
+    source: &Source,
+    at: &mut usize,
+    left: u32,
+) -> Result<Found<Expr>, ParseErr>
+    requires texts { All (IsSound source.now.text.now) source.now.tokens.now }
+    ensures ok { IfOk result (λ f. IsRead (OperandBy source.now.text.now Lead.Minus (drop at.old source.now.tokens.now)) left f.tree f.depth (drop at.new source.now.tokens.now)) }
+    ensures err { IfErr result (Says source.now.tokens.now (AreDeep (OperandBy source.now.text.now Lead.Minus (drop at.old source.now.tokens.now)) left)) }
+{
+    let head = open_form(source.tokens, at, left)?;
+    let operand = read_operand(alloc, source, at, head.below)?;
+    Ok(minus(alloc, head, operand)?)
+}
+
+/// A word that states a mode, and its operand.
+#[cycle(expressions)]
+#[tactic(auto, using(ml_grammar::proofs::OpenForms::worded_deep, ml_grammar::proofs::OpenForms::worded_read, ml_grammar::proofs::OpenForms::no_room))]
+fn read_worded(
+    words: Words,
+    alloc: Global,
+    source: &Source,
+    at: &mut usize,
+    left: u32,
+) -> Result<Found<Expr>, ParseErr>
+    requires texts { All (IsSound source.now.text.now) source.now.tokens.now }
+    ensures ok { IfOk result (λ f. IsRead (OperandBy source.now.text.now (Lead.Word words) (drop at.old source.now.tokens.now)) left f.tree f.depth (drop at.new source.now.tokens.now)) }
+    ensures err { IfErr result (Says source.now.tokens.now (AreDeep (OperandBy source.now.text.now (Lead.Word words) (drop at.old source.now.tokens.now)) left)) }
+{
+    let head = open_form(source.tokens, at, left)?;
+    let operand = read_operand(alloc, source, at, head.below)?;
+    Ok(worded(alloc, words, head, operand)?)
+}

@@ -1,0 +1,82 @@
+//! Atoms with what goes on behind them.
+ghost use Rattle.std.specs.Prelude.{◌≢◌, ◌<◌, ◌≤◌, drop, All, IfOk, IfErr};
+ghost use Rattle.ml_lexer.specs.Tokens.{IsSound};
+ghost use Rattle.ml_cursor.specs.Says.{Says};
+ghost use Rattle.ml_grammar.specs.declared.looks.Suffix.{Suffix};
+ghost use Rattle.ml_grammar.specs.Looks.{suffix};
+ghost use Rattle.ml_grammar.specs.Grammar.{simple, Reads};
+ghost use Rattle.ml_grammar.specs.Readings.{IsRead, AreDeep, OneSuffix};
+
+use crate::atom::read_atom;
+use ml_parse_forms::begins::suffix_at;
+use ml_parse_forms::brackets::{close_index, field_of};
+use crate::expression::read_parts;
+use ml_parse_forms::found::{Found, as_part};
+use ml_grammar::{ListKind, Suffix};
+use ml_parse_forms::source::Source;
+use ml_cursor::{ParseErr, skip};
+use ml_tree::Expr;
+use std::alloc::Global;
+
+/// An atom with the `.name` and `.[seq]` behind it.
+#[cycle(expressions)]
+#[tactic(auto, using(ml_grammar::proofs::Levels::simple_init, ml_grammar::proofs::Levels::simple_step, ml_grammar::proofs::Levels::simple_done, ml_grammar::proofs::Levels::simple_deep, ml_grammar::proofs::Levels::simple_deep_behind))]
+pub fn read_simple(
+    alloc: Global,
+    source: &Source,
+    at: &mut usize,
+    left: u32,
+) -> Result<Found<Expr>, ParseErr>
+    requires texts { All (IsSound source.now.text.now) source.now.tokens.now }
+    ensures ok { IfOk result (λ f. IsRead (Reads source.now.text.now simple (drop at.old source.now.tokens.now)) left f.tree f.depth (drop at.new source.now.tokens.now)) }
+    ensures err { IfErr result (Says source.now.tokens.now (AreDeep (Reads source.now.text.now simple (drop at.old source.now.tokens.now)) left)) }
+{
+    let mut found = read_atom(alloc, source, at, left)?;
+    'suffixes: while suffix_at(source.tokens, *at) != Suffix::Nothing {
+        found = read_suffix(alloc, source, at, found, left)?;
+    }
+    Ok(found)
+}
+
+/// What was found, with one `.name` or `.[seq]`.
+#[cycle(expressions)]
+#[tactic(auto, using(ml_grammar::proofs::Levels::suffix_no_room, ml_grammar::proofs::Handed::field_found, ml_grammar::proofs::Handed::field_none))]
+fn read_suffix(
+    alloc: Global,
+    source: &Source,
+    at: &mut usize,
+    found: Found<Expr>,
+    left: u32,
+) -> Result<Found<Expr>, ParseErr>
+    requires stands { suffix (drop at.old source.now.tokens.now) ≢ Suffix.Nothing }
+    requires small { found.depth ≤ left }
+    requires texts { All (IsSound source.now.text.now) source.now.tokens.now }
+    ensures ok { IfOk result (λ f. IsRead (OneSuffix source.now.text.now found.tree found.depth (suffix (drop at.old source.now.tokens.now)) (drop at.old source.now.tokens.now)) left f.tree f.depth (drop at.new source.now.tokens.now)) }
+    ensures err { IfErr result (Says source.now.tokens.now (AreDeep (OneSuffix source.now.text.now found.tree found.depth (suffix (drop at.old source.now.tokens.now)) (drop at.old source.now.tokens.now)) left)) }
+{
+    let found = as_part(source.tokens, *at, found, left)?;
+    match suffix_at(source.tokens, *at) {
+        Suffix::Field => Ok(field_of(alloc, source.tokens, at, found)?),
+        _ => Ok(read_index(alloc, source, at, found, left)?),
+    }
+}
+
+/// What was found, with one `.[seq]`.
+#[cycle(expressions)]
+#[tactic(auto, using(ml_grammar::proofs::Levels::index_deep, ml_grammar::proofs::Levels::index_not_closed, ml_grammar::proofs::Levels::index_read, ml_grammar::proofs::Handed::takes))]
+fn read_index(
+    alloc: Global,
+    source: &Source,
+    at: &mut usize,
+    found: Found<Expr>,
+    left: u32,
+) -> Result<Found<Expr>, ParseErr>
+    requires small { found.depth < left }
+    requires texts { All (IsSound source.now.text.now) source.now.tokens.now }
+    ensures ok { IfOk result (λ f. IsRead (OneSuffix source.now.text.now found.tree found.depth Suffix.Index (drop at.old source.now.tokens.now)) left f.tree f.depth (drop at.new source.now.tokens.now)) }
+    ensures err { IfErr result (Says source.now.tokens.now (AreDeep (OneSuffix source.now.text.now found.tree found.depth Suffix.Index (drop at.old source.now.tokens.now)) left)) }
+{
+    skip(source.tokens, at, 2);
+    let index = read_parts(ListKind::Statements, alloc, source, at, left - 1)?;
+    Ok(close_index(alloc, source.tokens, at, found, index)?)
+}
