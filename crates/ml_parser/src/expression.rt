@@ -7,7 +7,8 @@ ghost use Rattle.ml_grammar.specs.Grammar.{operators, listed, part_of, Reads, Le
 ghost use Rattle.ml_grammar.specs.Readings.{IsRead, AreDeep, Until, Behind, Infix, Levels};
 
 use ml_parse_forms::found::{Found, as_part, closed_by, expect};
-use crate::list::{goes_on, read_list};
+use crate::list::read_list;
+use ml_parse_forms::lists::goes_on;
 use ml_grammar::{Joint, ListKind};
 use ml_parse_forms::make::{gathered, infix};
 use crate::operand::read_operand;

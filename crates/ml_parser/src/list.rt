@@ -7,14 +7,12 @@ ghost use Rattle.ml_grammar.specs.Looks.{is_comma, joins_operands, begins_statem
 ghost use Rattle.ml_grammar.specs.Grammar.{exprs, Lists};
 ghost use Rattle.ml_grammar.specs.Readings.{IsRead, AreDeep};
 
-use ml_parse_forms::begins::{begins_atom, begins_expression, second_at};
 use crate::expression::read_part;
+use ml_parse_forms::lists::goes_on;
 use ml_parse_forms::found::{Found, no_parts, with_part};
 use ml_grammar::ListKind;
-use ml_parse_forms::operators::operator_of;
 use ml_parse_forms::source::Source;
-use ml_cursor::{Front, ParseErr, accept, front_at, pass};
-use ml_lexer::Token;
+use ml_cursor::ParseErr;
 use ml_tree::Expr;
 use oxml_base::Items;
 use std::alloc::Global;

@@ -7,12 +7,12 @@ ghost use Rattle.ml_grammar.specs.Grammar.{fields, Lists, ItemBy};
 ghost use Rattle.ml_grammar.specs.Readings.{IsRead, AreDeep};
 
 use crate::expression::read_parts;
+use ml_parse_forms::lists::field_follows;
 use ml_parse_forms::found::{Found, expect, no_parts, with_part};
 use ml_grammar::ListKind;
 use ml_parse_forms::parts::{field, pun};
 use ml_parse_forms::source::Source;
-use ml_cursor::{Front, ParseErr, accept, stands};
-use ml_lexer::Token;
+use ml_cursor::{Front, ParseErr, accept};
 use ml_tree::FieldExpr;
 use oxml_base::Items;
 use std::alloc::Global;
