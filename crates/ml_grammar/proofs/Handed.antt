@@ -1,5 +1,5 @@
 -- What the readers below hand on, in the words of the relation.
-use Rattle.std.proofs.Common.{◌≡◌, ◌≢◌, ℕ, zero, suc, ◌-◌, ◌+◌, ◌<◌, ◌≤◌, false, true, List, [], ◌∷◌, ◌++◌, max, drop, Option, Some, None, refl, sym, ap, subst, ◌∙◌, arith}
+use Rattle.std.proofs.Common.{◌≡◌, ◌≢◌, ℕ, zero, suc, ◌-◌, ◌+◌, ◌<◌, ◌≤◌, false, true, List, [], ◌∷◌, ◌++◌, max, drop, refl, sym, ap, subst, ◌∙◌, arith}
 use Rattle.oxml_base.specs.declared.span.Span.{Span}
 use Rattle.ml_lexer.specs.declared.token.Token.{Token}
 use Rattle.ml_cursor.specs.declared.front.Front.{Front}
@@ -7,7 +7,6 @@ use Rattle.ml_cursor.specs.declared.front.Front.TheVariants as F
 use Rattle.ml_cursor.specs.Fronts.{front}
 use Rattle.ml_cursor.specs.Places.{first_span, Takes}
 use Rattle.ml_cursor.specs.declared.error.ParseErr.{ParseErr}
-use Rattle.ml_cursor.specs.declared.error.ParseErr.TheVariants.{Refused, NoMemory}
 use Rattle.ml_cursor.specs.Says.{Says}
 use Rattle.ml_parse_patterns.specs.declared.found.Found.{Found}
 use Rattle.ml_parse_patterns.specs.declared.found.FoundParams.{FoundParams}
@@ -28,7 +27,7 @@ use Rattle.ml_grammar.specs.declared.looks.Suffix.TheVariants as S
 use Rattle.ml_grammar.specs.Looks.{is_colon}
 use Rattle.ml_grammar.specs.Trees.{node, start_of, width}
 use Rattle.ml_grammar.specs.Grammar.{Kind, ItemOf, more, past, to_next, Lists, ItemBy, ReadsPattern, HasType, Borrows, borrows, OperandBy, an_overwrite, seq, Reads, ConBy, a_block, a_cell}
-use Rattle.ml_grammar.specs.Readings.{IsRead, AreDeep, OneSuffix, one_field, Results, NoResults, NoBorrows, ClosesParens, closes_paren, closes_typed, NotClosed, Until, until, Behind, behind_it}
+use Rattle.ml_grammar.specs.Readings.{IsRead, AreDeep, OneSuffix, one_field, NoResults, NoBorrows, ClosesParens, closes_paren, closes_typed, NotClosed, Until, until, Behind, behind_it}
 use Rattle.ml_grammar.proofs.Deep.{Along, along, deep_along, deep_at, says, never, read_as}
 use Rattle.ml_grammar.proofs.Unique.{same}
 use Rattle.ml_grammar.proofs.Items.{ListSoFar, list_step, list_done, no_result_equal, result_no_type, result_not_equal}
@@ -40,14 +39,14 @@ takes p q = record { stands = p; rest_is = q; span_is = refl }
 pub pattern_read : {text : List ℕ} {left : ℕ} {ts rest : List Token} {f : Found} → IsFound text Pattern left ts rest f → IsRead (ReadsPattern text ts) left f.pat f.depth rest
 pattern_read h = record { reads = h.reads; small = h.small }
 
-pub pattern_says : {text : List ℕ} {left : ℕ} {ts : List Token} (tokens : List Token) (e : ParseErr) → Says tokens (NoTree text Pattern left ts) e → Says tokens (AreDeep (ReadsPattern text ts) left) e
-pattern_says tokens e h = says tokens (λ n. record { deep = n.deep }) e h
+pub pattern_says : (text : List ℕ) (left : ℕ) (ts : List Token) (tokens : List Token) (e : ParseErr) → Says tokens (NoTree text Pattern left ts) e → Says tokens (AreDeep (ReadsPattern text ts) left) e
+pattern_says text left ts tokens e h = says tokens (λ n. record { deep = n.deep }) e h
 
 pub params_read : {text : List ℕ} {left : ℕ} {ts rest : List Token} {f : FoundParams} → AreParams text left ts rest f → IsRead (ReadsParams text ts) left f.list f.depth rest
 params_read h = record { reads = h.reads; small = h.small }
 
-pub params_says : {text : List ℕ} {left : ℕ} {ts : List Token} (tokens : List Token) (e : ParseErr) → Says tokens (NoParams text left ts) e → Says tokens (AreDeep (ReadsParams text ts) left) e
-params_says tokens e h = says tokens (λ n. record { deep = n.deep }) e h
+pub params_says : (text : List ℕ) (left : ℕ) (ts : List Token) (tokens : List Token) (e : ParseErr) → Says tokens (NoParams text left ts) e → Says tokens (AreDeep (ReadsParams text ts) left) e
+params_says text left ts tokens e h = says tokens (λ n. record { deep = n.deep }) e h
 
 -- behind the last token of a leaf
 
@@ -159,8 +158,8 @@ parens_not_closed {from} {e} {ts} {us} {vs} {t} {c} k x n = record { none = λ f
 -- the loops of lists: one more, and what goes on; or the last one
 
 pub list_goes : {text : List ℕ} {k : Kind} {start ts us vs : List Token} {done xs : List (ItemOf k)} {x : ItemOf k} {depth dx d left : ℕ} → ListSoFar text k start done depth ts → IsRead (ItemBy text k ts) left x dx us → more k us ≡ true → vs ≡ to_next k us → xs ≡ done ++ (x ∷ []) → d ≡ max depth dx → ListSoFar text k start xs d vs
-list_goes {text} {k} {start} {ts} {us} {vs} {done} {xs} {x} {depth} {dx} i y m f g h =
-    subst (λ xs. ListSoFar text k start xs _ vs) (sym g) (subst (λ d. ListSoFar text k start (done ++ (x ∷ [])) d vs) (sym h) (list_step i y.reads m f))
+list_goes {text} {k} {start} {ts} {us} {vs} {done} {xs} {x} {depth} {dx} {d} i y m f g h =
+    subst (λ xs. ListSoFar text k start xs d vs) (sym g) (subst (λ d. ListSoFar text k start (done ++ (x ∷ [])) d vs) (sym h) (list_step i y.reads m f))
 
 pub list_read : {text : List ℕ} {k : Kind} {start ts us r : List Token} {done xs : List (ItemOf k)} {x : ItemOf k} {depth dx d left : ℕ} → ListSoFar text k start done depth ts → depth ≤ left → IsRead (ItemBy text k ts) left x dx us → more k us ≡ false → r ≡ past k us → xs ≡ done ++ (x ∷ []) → d ≡ max depth dx → IsRead (Lists text k start) left xs d r
 list_read {r = r} i l y m f g h = let n = y.small in read_as r (list_done i y.reads m f) g h (omega arith)
@@ -197,17 +196,17 @@ until_other {text} {end} {ts} {us} {e} {d} x n = never (λ e d r y. inner y)
     inner : {e : Expr} {d : ℕ} {r : List Token} → Until text end ts e d r → ⊥
     inner (until y p) = n (ap front (sym (same x y).rest) ∙ p)
 
-pub behind_read : {text : List ℕ} {start : Front} {ts us r : List Token} {e : Expr} {d left : ℕ} → front ts ≡ start → us ≡ drop 1 ts → IsRead (Reads text seq us) left e d r → IsRead (Behind text start ts) left e d r
-behind_read {text} {start} {ts} {us} {r} {e} {d} p f i = record { reads = behind_it p (subst (λ us. Reads text seq us e d r) f i.reads); small = i.small }
+pub behind_read : {text : List ℕ} {first : Front} {ts us r : List Token} {e : Expr} {d left : ℕ} → front ts ≡ first → us ≡ drop 1 ts → IsRead (Reads text seq us) left e d r → IsRead (Behind text first ts) left e d r
+behind_read {text} {first} {ts} {us} {r} {e} {d} p f i = record { reads = behind_it p (subst (λ us. Reads text seq us e d r) f i.reads); small = i.small }
 
-pub behind_deep : {text : List ℕ} {start : Front} {ts us : List Token} {left : ℕ} → us ≡ drop 1 ts → AreDeep (Reads text seq us) left → AreDeep (Behind text start ts) left
-behind_deep {text} {start} {ts} e h = deep_along (λ y d r x. inner x) (deep_at (Reads text seq) e h)
+pub behind_deep : {text : List ℕ} {first : Front} {ts us : List Token} {left : ℕ} → us ≡ drop 1 ts → AreDeep (Reads text seq us) left → AreDeep (Behind text first ts) left
+behind_deep {text} {first} {ts} e h = deep_along (λ y d r x. inner x) (deep_at (Reads text seq) e h)
   where
-    inner : {y : Expr} {d : ℕ} {r : List Token} → Behind text start ts y d r → Along (Reads text seq (drop 1 ts)) d
+    inner : {y : Expr} {d : ℕ} {r : List Token} → Behind text first ts y d r → Along (Reads text seq (drop 1 ts)) d
     inner (behind_it p x) = along _ _ _ x (omega arith)
 
-pub behind_other : {text : List ℕ} {start : Front} {ts : List Token} {left : ℕ} → front ts ≢ start → AreDeep (Behind text start ts) left
-behind_other {text} {start} {ts} n = never (λ e d r x. inner x)
+pub behind_other : {text : List ℕ} {first : Front} {ts : List Token} {left : ℕ} → front ts ≢ first → AreDeep (Behind text first ts) left
+behind_other {text} {first} {ts} n = never (λ e d r x. inner x)
   where
-    inner : {e : Expr} {d : ℕ} {r : List Token} → Behind text start ts e d r → ⊥
+    inner : {e : Expr} {d : ℕ} {r : List Token} → Behind text first ts e d r → ⊥
     inner (behind_it p x) = n p
