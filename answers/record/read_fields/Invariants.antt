@@ -5,9 +5,9 @@ use Rattle.ml_parser.proofs.record.read_fields.Given as goal
 
 abbrev pub invariant-fields : goal.invariant-fields
 invariant-fields l = record {
-  so_far : ListSoFar l.source.text fields (drop l.fn.at l.source.tokens) l.list.tree l.list.depth (drop l.at l.source.tokens);
+  so_far : ListSoFar l.source.text.now fields (drop l.fn.at l.source.tokens.now) l.list.tree l.list.depth (drop l.at l.source.tokens.now);
   small : l.list.depth ≤ l.left;
 }
 
 abbrev pub decreases-fields : goal.decreases-fields
-decreases-fields l = length (drop l.at l.source.tokens)
+decreases-fields l = length (drop l.at l.source.tokens.now)

@@ -3,9 +3,9 @@ ghost use Rattle.std.specs.Prelude.{◌≡◌, drop, length};
 ghost use Rattle.ml_cursor.specs.Fronts.{front};
 ghost use Rattle.ml_grammar.specs.Looks.{second, third, atom_by, atom_lead, begins_atom_by, begins_atom, suffix_by, suffix, locality, uniqueness, affinity, lead_by, lead, begins_open_by, begins_expression, begins_parameter, binds_function, is_lower};
 
-use ml_grammar::{AtomLead, Lead, Leaf, Suffix};
 use crate::source::Source;
 use ml_cursor::{Front, begins_closed_let, front_at, pass};
+use ml_grammar::{AtomLead, Lead, Leaf, Suffix};
 use ml_lexer::Token;
 use ml_tree::{Aff, Loc, Uni, Words};
 
@@ -65,7 +65,11 @@ fn atom_by(first: Front, second: Front, third: Front) -> AtomLead
 pub fn atom_at(tokens: &[Token], at: usize) -> AtomLead
     ensures { result ≡ atom_lead (drop at tokens.now) }
 {
-    atom_by(front_at(tokens, at), second_at(tokens, at), third_at(tokens, at))
+    atom_by(
+        front_at(tokens, at),
+        second_at(tokens, at),
+        third_at(tokens, at),
+    )
 }
 
 /// Whether an atom begins with this.

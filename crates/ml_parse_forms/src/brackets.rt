@@ -8,8 +8,8 @@ ghost use Rattle.ml_cursor.specs.Says.{Says};
 ghost use Rattle.ml_grammar.specs.Trees.{node, start_of};
 ghost use Rattle.ml_grammar.specs.Readings.{ClosesParens, NotClosed};
 
-use crate::target::read_whole_type;
 use crate::found::{Found, Head, deeper, expect, joined, node};
+use crate::target::read_whole_type;
 use ml_cursor::{Front, ParseErr, stands};
 use ml_lexer::Token;
 use ml_tree::{Expr, ExprKind, FieldExpr};
@@ -78,7 +78,11 @@ pub fn close_list(
     ensures err { IfErr result (Says tokens.now (front (drop at.old tokens.now) ≢ Front.CloseBracket)) }
 {
     let close = expect(tokens, at, Front::CloseBracket)?;
-    Ok(node(joined(head.span, close), ExprKind::List(list.tree), list.depth))
+    Ok(node(
+        joined(head.span, close),
+        ExprKind::List(list.tree),
+        list.depth,
+    ))
 }
 
 /// `{f = e; ..}`, whose `}` stands at the place.
@@ -96,7 +100,11 @@ pub fn close_record(
     ensures err { IfErr result (Says tokens.now (front (drop at.old tokens.now) ≢ Front.CloseBrace)) }
 {
     let close = expect(tokens, at, Front::CloseBrace)?;
-    Ok(node(joined(head.span, close), ExprKind::Fields(fields.tree), fields.depth))
+    Ok(node(
+        joined(head.span, close),
+        ExprKind::Fields(fields.tree),
+        fields.depth,
+    ))
 }
 
 /// `(e)` or `begin e end`, whose end stands at the place.

@@ -185,7 +185,11 @@ pub fn matching(
     let end = end_of_last(arms.tree.as_slice());
     let depth = deeper(scrutinee.depth, arms.depth);
     let scrutinee = Boxed::new(alloc, scrutinee.tree)?;
-    Ok(node(Span { start, end }, ExprKind::Match(scrutinee, arms.tree), depth))
+    Ok(node(
+        Span { start, end },
+        ExprKind::Match(scrutinee, arms.tree),
+        depth,
+    ))
 }
 
 /// `function arms`
@@ -196,5 +200,9 @@ pub fn function(head: Head, arms: Found<Items<Arm>>) -> Found<Expr>
 {
     let start = head.span.start;
     let end = end_of_last(arms.tree.as_slice());
-    node(Span { start, end }, ExprKind::Function(arms.tree), arms.depth)
+    node(
+        Span { start, end },
+        ExprKind::Function(arms.tree),
+        arms.depth,
+    )
 }

@@ -8,9 +8,9 @@ ghost use Rattle.ml_grammar.specs.Grammar.{AtomBy};
 ghost use Rattle.ml_grammar.specs.Readings.{IsRead, AreDeep};
 
 use crate::found::{Found, joined, node, open_form};
-use ml_grammar::Leaf;
 use crate::source::Source;
 use ml_cursor::{ParseErr, char_at, int_at, pass, refusal_at, span_at};
+use ml_grammar::Leaf;
 use ml_lexer::{Token, TokenKind, text_bytes};
 use ml_tree::{ConName, Expr, ExprKind};
 use sqlite_items::at as token_at;

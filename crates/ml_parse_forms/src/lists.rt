@@ -23,13 +23,18 @@ fn is_comma(front: Front) -> bool
 fn joins_operands(front: Front) -> bool
     ensures { result ≡ joins_operands front }
 {
-    is_comma(front) || operator_of(front).is_some()
+    if is_comma(front) {
+        return true;
+    }
+    match operator_of(front) {
+        Some(_) => true,
+        None => false,
+    }
 }
 
 /// Goes past the `;` behind an expression, if it belongs to the sequence, and says whether another
 /// expression follows. A `;` with no expression behind it is the trailing one, but before an operator
 /// or a `,` it belongs to nothing: the form that it would end is open, and no left operand.
-#[tactic(auto, unfolding(ml_grammar::specs::Looks::begins_statement, ml_grammar::specs::Looks::behind_statements))]
 fn goes_on_statements(source: &Source, at: &mut usize) -> bool
     ensures goes { result ≡ begins_statement (drop at.old source.now.tokens.now) }
     ensures place { drop at.new source.now.tokens.now ≡ (if result then drop 1 (drop at.old source.now.tokens.now) else behind_statements (drop at.old source.now.tokens.now)) }
@@ -43,6 +48,7 @@ fn goes_on_statements(source: &Source, at: &mut usize) -> bool
     }
     if joins_operands(front_at(source.tokens, *at)) {
         *at = start;
+        return false;
     }
     false
 }
@@ -55,17 +61,20 @@ pub fn goes_on(kind: ListKind, source: &Source, at: &mut usize) -> bool
     ensures place { drop at.new source.now.tokens.now ≡ (if result then next kind (drop at.old source.now.tokens.now) else behind kind (drop at.old source.now.tokens.now)) }
 {
     match kind {
-        ListKind::Statements | ListKind::Elements => goes_on_statements(source, at),
+        ListKind::Statements => goes_on_statements(source, at),
+        ListKind::Elements => goes_on_statements(source, at),
         ListKind::Parts => accept(source.tokens, at, Front::Comma),
         ListKind::Arguments => begins_atom(source.tokens, *at),
     }
 }
 
 /// Goes past the `;` behind a field, if there is one, and says whether a field follows.
-#[tactic(auto, unfolding(ml_grammar::specs::Looks::begins_field, ml_grammar::specs::Looks::behind_semi))]
 pub fn field_follows(tokens: &[Token], at: &mut usize) -> bool
     ensures goes { result ≡ begins_field (drop at.old tokens.now) }
     ensures place { drop at.new tokens.now ≡ (if result then drop 1 (drop at.old tokens.now) else behind_semi (drop at.old tokens.now)) }
 {
-    accept(tokens, at, Front::Semi) && stands(tokens, *at, Front::Lower)
+    if !accept(tokens, at, Front::Semi) {
+        return false;
+    }
+    stands(tokens, *at, Front::Lower)
 }

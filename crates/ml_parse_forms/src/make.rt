@@ -6,8 +6,8 @@ ghost use Rattle.ml_cursor.specs.declared.error.ParseErr.{ParseErr};
 ghost use Rattle.ml_grammar.specs.Trees.{node, start_of, end_of, end_behind, joined, gathered, gathered_kind};
 
 use crate::found::{Found, Head, deeper, joined, node};
-use ml_grammar::{Joint, ListKind};
 use ml_cursor::ParseErr;
+use ml_grammar::{Joint, ListKind};
 use ml_tree::{ConName, Expr, ExprKind, Words};
 use oxml_base::{Items, Span};
 use sqlite_items::Boxed;
@@ -25,11 +25,7 @@ fn end_of_last(list: &[Expr]) -> u32
 }
 
 /// A list whose first stands before the others.
-fn with_first(
-    alloc: Global,
-    first: Expr,
-    others: Items<Expr>,
-) -> Result<Items<Expr>, ParseErr>
+fn with_first(alloc: Global, first: Expr, others: Items<Expr>) -> Result<Items<Expr>, ParseErr>
     ensures ok { IfOk result (λ list. list ≡ first ∷ others) }
     ensures err { IfErr result (λ e. e ≡ ParseErr.NoMemory) }
 {

@@ -1,8 +1,9 @@
 ghost use Rattle.std.specs.Prelude.{◌≡◌, drop, Some};
 ghost use Rattle.ml_grammar.specs.Looks.{binary, operator, of_level, operator_at, groups_left};
+ghost use Rattle.ml_parse_forms.specs.Operators.{shown};
 
-use ml_grammar::Joint;
 use ml_cursor::{Front, front_at, pass};
+use ml_grammar::Joint;
 use ml_lexer::Token;
 use ml_tree::BinOp;
 
@@ -29,7 +30,7 @@ pub fn groups_left(level: u8) -> bool
 }
 
 fn binary(level: u8, op: BinOp) -> Option<Operator>
-    ensures { result ≡ binary level op }
+    ensures { shown result ≡ binary level op }
 {
     Some(Operator {
         level,
@@ -39,7 +40,7 @@ fn binary(level: u8, op: BinOp) -> Option<Operator>
 
 /// The operator with this sign or word.
 pub fn operator_of(front: Front) -> Option<Operator>
-    ensures { result ≡ operator front }
+    ensures { shown result ≡ operator front }
 {
     match front {
         Front::Lsl => binary(1, BinOp::Lsl),
@@ -73,7 +74,7 @@ pub fn operator_of(front: Front) -> Option<Operator>
 
 /// What an operator makes of its operands, if it is of this level.
 fn of_level(level: u8, found: Operator) -> Option<Joint>
-    ensures { result ≡ of_level level (Some found) }
+    ensures { result ≡ of_level level (shown (Some found)) }
 {
     if found.level == level {
         return Some(found.joint);

@@ -26,12 +26,7 @@ pub fn field(name: Span, value: Found<Expr>) -> Found<FieldExpr>
 }
 
 /// `name` alone, which means the name itself.
-pub fn pun(
-    tokens: &[Token],
-    at: usize,
-    name: Span,
-    left: u32,
-) -> Result<Found<FieldExpr>, ParseErr>
+pub fn pun(tokens: &[Token], at: usize, name: Span, left: u32) -> Result<Found<FieldExpr>, ParseErr>
     ensures tree { IfOk result (λ f. f.tree ≡ pun name) }
     ensures depth { IfOk result (λ f. f.depth ≡ 1) }
     ensures small { IfOk result (λ f. f.depth ≤ left) }

@@ -133,11 +133,7 @@ pub fn read_target(
 }
 
 /// A type.
-pub fn read_whole_type(
-    alloc: Global,
-    tokens: &[Token],
-    at: &mut usize,
-) -> Result<TyExpr, ParseErr>
+pub fn read_whole_type(alloc: Global, tokens: &[Token], at: &mut usize) -> Result<TyExpr, ParseErr>
     ensures ok { IfOk result (λ ty. HasType (drop at.old tokens.now) ty (drop at.new tokens.now)) }
     ensures err { IfErr result (Says tokens.now (IsNone (ReadsType Row.Factors) (drop at.old tokens.now))) }
 {

@@ -1,1 +1,2 @@
+mod Operands
 mod Ranks

@@ -8,19 +8,18 @@ ghost use Rattle.ml_grammar.specs.Grammar.{arms, GuardBy, Lists, ItemBy};
 ghost use Rattle.ml_grammar.specs.Readings.{IsRead, AreDeep, Actions};
 
 use crate::expression::{read_parts, read_until};
-use ml_parse_forms::found::{Found, expect, just, no_parts, nothing, pair, with_part};
+use ml_cursor::{Front, ParseErr, accept};
 use ml_grammar::ListKind;
+use ml_parse_forms::found::{Found, expect, just, no_parts, nothing, pair, with_part};
 use ml_parse_forms::parts::arm;
 use ml_parse_forms::source::Source;
 use ml_parse_forms::target::read_whole_pattern;
-use ml_cursor::{Front, ParseErr, accept};
 use ml_tree::{Arm, Expr};
 use oxml_base::Items;
 use std::alloc::Global;
 
 /// `[|] arm (| arm)*`
 #[cycle(expressions)]
-#[tactic(auto, using(ml_grammar::proofs::Items::list_init, ml_grammar::proofs::Items::list_deep, ml_grammar::proofs::Handed::list_goes, ml_grammar::proofs::Handed::list_read, ml_grammar::proofs::Accepts::bar_flag, ml_grammar::proofs::Accepts::bar_place))]
 pub fn read_arms(
     alloc: Global,
     source: &Source,
@@ -44,7 +43,6 @@ pub fn read_arms(
 
 /// `pattern [when seq] -> seq`
 #[cycle(expressions)]
-#[tactic(auto, using(ml_grammar::proofs::Items::arm_deep, ml_grammar::proofs::Items::arm_deep_behind, ml_grammar::proofs::Items::arm_read))]
 fn read_arm(
     alloc: Global,
     source: &Source,
@@ -62,7 +60,6 @@ fn read_arm(
 
 /// `[when seq] -> seq`
 #[cycle(expressions)]
-#[tactic(auto, using(ml_grammar::proofs::Items::action_deep, ml_grammar::proofs::Items::action_deep_behind, ml_grammar::proofs::Items::action_read))]
 fn read_action(
     alloc: Global,
     source: &Source,
@@ -80,7 +77,6 @@ fn read_action(
 
 /// `[when seq] ->`
 #[cycle(expressions)]
-#[tactic(auto, using(ml_grammar::proofs::Items::guard_none, ml_grammar::proofs::Items::guard_read, ml_grammar::proofs::Items::guard_deep, ml_grammar::proofs::Items::guard_neither))]
 fn read_guard(
     alloc: Global,
     source: &Source,

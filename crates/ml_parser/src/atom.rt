@@ -6,22 +6,21 @@ ghost use Rattle.ml_grammar.specs.declared.looks.AtomLead.{AtomLead};
 ghost use Rattle.ml_grammar.specs.Grammar.{atom, Reads, AtomBy};
 ghost use Rattle.ml_grammar.specs.Readings.{IsRead, AreDeep};
 
+use crate::expression::read_parts;
+use crate::list::read_list;
+use crate::record::read_fields;
+use ml_cursor::{Front, ParseErr, refusal_at};
+use ml_grammar::{AtomLead, ListKind};
 use ml_parse_forms::begins::atom_at;
 use ml_parse_forms::brackets::{close_list, close_paren, close_parens, close_record};
-use crate::expression::read_parts;
 use ml_parse_forms::found::{Found, open_form};
 use ml_parse_forms::leaf::{read_leaf, read_text};
-use crate::list::read_list;
-use ml_grammar::{AtomLead, ListKind};
-use crate::record::read_fields;
 use ml_parse_forms::source::Source;
-use ml_cursor::{Front, ParseErr, refusal_at};
 use ml_tree::Expr;
 use std::alloc::Global;
 
 /// An expression in brackets of some kind, or a leaf.
 #[cycle(expressions)]
-#[tactic(auto, using(ml_grammar::proofs::Atoms::atom_read, ml_grammar::proofs::Atoms::atom_deep, ml_grammar::proofs::Atoms::no_atom, ml_grammar::proofs::Atoms::no_room))]
 pub fn read_atom(
     alloc: Global,
     source: &Source,
@@ -45,7 +44,6 @@ pub fn read_atom(
 
 /// `(seq)` and `(seq : type)`
 #[cycle(expressions)]
-#[tactic(auto, using(ml_grammar::proofs::Atoms::paren_deep, ml_grammar::proofs::Atoms::paren_not_closed, ml_grammar::proofs::Atoms::paren_read, ml_grammar::proofs::Atoms::no_room))]
 fn read_paren(
     alloc: Global,
     source: &Source,
@@ -63,7 +61,6 @@ fn read_paren(
 
 /// `begin seq end`
 #[cycle(expressions)]
-#[tactic(auto, using(ml_grammar::proofs::Atoms::begin_deep, ml_grammar::proofs::Atoms::begin_not_closed, ml_grammar::proofs::Atoms::begin_read, ml_grammar::proofs::Atoms::no_room, ml_grammar::proofs::Handed::takes))]
 fn read_begin(
     alloc: Global,
     source: &Source,
@@ -81,7 +78,6 @@ fn read_begin(
 
 /// `[expr (; expr)* [;]]`
 #[cycle(expressions)]
-#[tactic(auto, using(ml_grammar::proofs::Atoms::list_deep, ml_grammar::proofs::Atoms::list_not_closed, ml_grammar::proofs::Atoms::list_read, ml_grammar::proofs::Atoms::no_room, ml_grammar::proofs::Handed::takes))]
 fn read_elements(
     alloc: Global,
     source: &Source,
@@ -99,7 +95,6 @@ fn read_elements(
 
 /// `{field (; field)* [;]}`
 #[cycle(expressions)]
-#[tactic(auto, using(ml_grammar::proofs::Atoms::fields_deep, ml_grammar::proofs::Atoms::fields_not_closed, ml_grammar::proofs::Atoms::fields_read, ml_grammar::proofs::Atoms::no_room, ml_grammar::proofs::Handed::takes))]
 fn read_record(
     alloc: Global,
     source: &Source,

@@ -6,19 +6,18 @@ ghost use Rattle.ml_grammar.specs.Grammar.{binds, Lists, ItemBy};
 ghost use Rattle.ml_grammar.specs.Readings.{IsRead, AreDeep, Values};
 
 use crate::expression::read_parts;
-use ml_parse_forms::found::{Found, no_parts, with_part};
+use ml_cursor::{Front, ParseErr, accept};
 use ml_grammar::ListKind;
+use ml_parse_forms::found::{Found, no_parts, with_part};
 use ml_parse_forms::parts::{bind, value};
 use ml_parse_forms::source::Source;
 use ml_parse_forms::target::{read_result, read_target};
-use ml_cursor::{Front, ParseErr, accept};
 use ml_tree::{Bind, Expr, TyExpr};
 use oxml_base::Items;
 use std::alloc::Global;
 
 /// `bind (and bind)*`
 #[cycle(expressions)]
-#[tactic(auto, using(ml_grammar::proofs::Items::list_init, ml_grammar::proofs::Items::list_deep, ml_grammar::proofs::Handed::list_goes, ml_grammar::proofs::Handed::list_read, ml_grammar::proofs::Accepts::and_flag))]
 pub fn read_binds(
     alloc: Global,
     source: &Source,
@@ -41,7 +40,6 @@ pub fn read_binds(
 
 /// `name param+ [: type] = seq` and `pattern [: type] = seq`
 #[cycle(expressions)]
-#[tactic(auto, using(ml_grammar::proofs::Items::bind_deep, ml_grammar::proofs::Items::bind_deep_behind, ml_grammar::proofs::Items::bind_read))]
 fn read_bind(
     alloc: Global,
     source: &Source,
@@ -59,7 +57,6 @@ fn read_bind(
 
 /// `[: type] = seq`
 #[cycle(expressions)]
-#[tactic(auto, using(ml_grammar::proofs::Items::value_no_result, ml_grammar::proofs::Items::value_deep, ml_grammar::proofs::Items::value_read))]
 fn read_value(
     alloc: Global,
     source: &Source,

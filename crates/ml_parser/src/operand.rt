@@ -26,7 +26,6 @@ use std::alloc::Global;
 /// An operand of an operator: an open form, a prefix with its operand, or an application. An open
 /// form takes all tokens that can belong to it, so it is the last operand.
 #[cycle(expressions)]
-#[tactic(auto, using(ml_grammar::proofs::OpenForms::operand_read, ml_grammar::proofs::OpenForms::operand_deep, ml_grammar::proofs::OpenForms::application_read, ml_grammar::proofs::OpenForms::application_deep, ml_grammar::proofs::OpenForms::constructor_read, ml_grammar::proofs::OpenForms::constructor_deep))]
 pub fn read_operand(
     alloc: Global,
     source: &Source,
@@ -55,7 +54,6 @@ pub fn read_operand(
 
 /// `let [rec] bind (and bind)* in seq`
 #[cycle(expressions)]
-#[tactic(auto, using(ml_grammar::proofs::OpenForms::let_deep, ml_grammar::proofs::OpenForms::let_deep_behind, ml_grammar::proofs::OpenForms::let_read, ml_grammar::proofs::OpenForms::no_room, ml_grammar::proofs::Accepts::rec_place, ml_grammar::proofs::Accepts::rec_flag))]
 fn read_let(
     alloc: Global,
     source: &Source,
@@ -75,7 +73,6 @@ fn read_let(
 
 /// `let borrow_ name = name in seq`
 #[cycle(expressions)]
-#[tactic(auto, using(ml_grammar::proofs::OpenForms::borrow_deep, ml_grammar::proofs::OpenForms::borrow_deep_behind, ml_grammar::proofs::OpenForms::borrow_read, ml_grammar::proofs::OpenForms::no_room))]
 fn read_borrow(
     alloc: Global,
     source: &Source,
@@ -94,7 +91,6 @@ fn read_borrow(
 
 /// `match seq with arms`
 #[cycle(expressions)]
-#[tactic(auto, using(ml_grammar::proofs::OpenForms::match_deep, ml_grammar::proofs::OpenForms::match_deep_behind, ml_grammar::proofs::OpenForms::match_read, ml_grammar::proofs::OpenForms::no_room))]
 fn read_match(
     alloc: Global,
     source: &Source,
@@ -113,7 +109,6 @@ fn read_match(
 
 /// `function arms`
 #[cycle(expressions)]
-#[tactic(auto, using(ml_grammar::proofs::OpenForms::function_deep, ml_grammar::proofs::OpenForms::function_read, ml_grammar::proofs::OpenForms::no_room))]
 fn read_function(
     alloc: Global,
     source: &Source,
@@ -131,7 +126,6 @@ fn read_function(
 
 /// `fun param+ -> seq`
 #[cycle(expressions)]
-#[tactic(auto, using(ml_grammar::proofs::OpenForms::fun_deep, ml_grammar::proofs::OpenForms::fun_deep_behind, ml_grammar::proofs::OpenForms::fun_read, ml_grammar::proofs::OpenForms::no_room))]
 fn read_fun(
     alloc: Global,
     source: &Source,
@@ -150,7 +144,6 @@ fn read_fun(
 
 /// `if seq then expr [else expr]`
 #[cycle(expressions)]
-#[tactic(auto, using(ml_grammar::proofs::OpenForms::if_deep, ml_grammar::proofs::OpenForms::if_deep_behind, ml_grammar::proofs::OpenForms::if_read, ml_grammar::proofs::OpenForms::no_room))]
 fn read_if(
     alloc: Global,
     source: &Source,
@@ -169,7 +162,6 @@ fn read_if(
 
 /// `expr [else expr]`
 #[cycle(expressions)]
-#[tactic(auto, using(ml_grammar::proofs::Items::branches_deep, ml_grammar::proofs::Items::branches_deep_behind, ml_grammar::proofs::Items::branches_read))]
 fn read_branches(
     alloc: Global,
     source: &Source,
@@ -187,7 +179,6 @@ fn read_branches(
 
 /// `[else expr]`
 #[cycle(expressions)]
-#[tactic(auto, using(ml_grammar::proofs::Items::else_none, ml_grammar::proofs::Items::else_read, ml_grammar::proofs::Items::else_deep, ml_grammar::proofs::Accepts::else_flag))]
 fn read_else(
     alloc: Global,
     source: &Source,
@@ -206,7 +197,6 @@ fn read_else(
 
 /// `exclave_ seq`
 #[cycle(expressions)]
-#[tactic(auto, using(ml_grammar::proofs::OpenForms::exclave_deep, ml_grammar::proofs::OpenForms::exclave_read, ml_grammar::proofs::OpenForms::no_room))]
 fn read_exclave(
     alloc: Global,
     source: &Source,
@@ -224,7 +214,6 @@ fn read_exclave(
 
 /// `-` and its operand.
 #[cycle(expressions)]
-#[tactic(auto, using(ml_grammar::proofs::OpenForms::minus_deep, ml_grammar::proofs::OpenForms::minus_read, ml_grammar::proofs::OpenForms::no_room))]
 fn read_minus(
     alloc: Global,
     source: &Source,
@@ -242,7 +231,6 @@ fn read_minus(
 
 /// A word that states a mode, and its operand.
 #[cycle(expressions)]
-#[tactic(auto, using(ml_grammar::proofs::OpenForms::worded_deep, ml_grammar::proofs::OpenForms::worded_read, ml_grammar::proofs::OpenForms::no_room))]
 fn read_worded(
     words: Words,
     alloc: Global,

@@ -22,7 +22,6 @@ use std::alloc::Global;
 
 /// `overwrite_ name with con`
 #[cycle(expressions)]
-#[tactic(auto, using(ml_grammar::proofs::OpenForms::overwrite_deep, ml_grammar::proofs::OpenForms::overwrite_read, ml_grammar::proofs::OpenForms::no_room, ml_grammar::proofs::Handed::overwrite_none))]
 pub fn read_overwrite(
     alloc: Global,
     source: &Source,
@@ -41,7 +40,6 @@ pub fn read_overwrite(
 
 /// `Name simple`, or `(expr)` with `::` on top.
 #[cycle(expressions)]
-#[tactic(auto, using(ml_grammar::proofs::Handed::con_read, ml_grammar::proofs::Handed::con_deep, ml_grammar::proofs::Handed::no_con))]
 fn read_con(
     alloc: Global,
     source: &Source,
@@ -61,7 +59,6 @@ fn read_con(
 
 /// `Name simple`
 #[cycle(expressions)]
-#[tactic(auto, using(ml_grammar::proofs::Atoms::block_deep, ml_grammar::proofs::Atoms::block_read, ml_grammar::proofs::Atoms::no_con_room))]
 pub fn read_block(
     alloc: Global,
     source: &Source,
@@ -79,7 +76,6 @@ pub fn read_block(
 
 /// `(expr)` with `::` on top.
 #[cycle(expressions)]
-#[tactic(auto, using(ml_grammar::proofs::Atoms::cell_deep, ml_grammar::proofs::Atoms::cell_no_pair, ml_grammar::proofs::Atoms::cell_deep_behind, ml_grammar::proofs::Atoms::cell_not_closed, ml_grammar::proofs::Atoms::cell_read, ml_grammar::proofs::Atoms::no_con_room, ml_grammar::proofs::Handed::takes))]
 fn read_cell(
     alloc: Global,
     source: &Source,

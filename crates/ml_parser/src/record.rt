@@ -1,25 +1,23 @@
 //! The fields of a record.
-ghost use Rattle.std.specs.Prelude.{◌≡◌, drop, if◌then◌else◌, All, IfOk, IfErr};
+ghost use Rattle.std.specs.Prelude.{drop, All, IfOk, IfErr};
 ghost use Rattle.ml_lexer.specs.Tokens.{IsSound};
 ghost use Rattle.ml_cursor.specs.Says.{Says};
-ghost use Rattle.ml_grammar.specs.Looks.{begins_field, behind_semi};
 ghost use Rattle.ml_grammar.specs.Grammar.{fields, Lists, ItemBy};
 ghost use Rattle.ml_grammar.specs.Readings.{IsRead, AreDeep};
 
 use crate::expression::read_parts;
-use ml_parse_forms::lists::field_follows;
-use ml_parse_forms::found::{Found, expect, no_parts, with_part};
+use ml_cursor::{Front, ParseErr, accept};
 use ml_grammar::ListKind;
+use ml_parse_forms::found::{Found, expect, no_parts, with_part};
+use ml_parse_forms::lists::field_follows;
 use ml_parse_forms::parts::{field, pun};
 use ml_parse_forms::source::Source;
-use ml_cursor::{Front, ParseErr, accept};
 use ml_tree::FieldExpr;
 use oxml_base::Items;
 use std::alloc::Global;
 
 /// `field (; field)* [;]`
 #[cycle(expressions)]
-#[tactic(auto, using(ml_grammar::proofs::Items::list_init, ml_grammar::proofs::Items::list_deep, ml_grammar::proofs::Handed::list_goes, ml_grammar::proofs::Handed::list_read))]
 pub fn read_fields(
     alloc: Global,
     source: &Source,
@@ -42,7 +40,6 @@ pub fn read_fields(
 
 /// `name [= expr]`
 #[cycle(expressions)]
-#[tactic(auto, using(ml_grammar::proofs::Items::field_no_name, ml_grammar::proofs::Items::pun_no_room, ml_grammar::proofs::Items::pun_read, ml_grammar::proofs::Items::set_field_deep, ml_grammar::proofs::Items::set_field_read))]
 fn read_field(
     alloc: Global,
     source: &Source,

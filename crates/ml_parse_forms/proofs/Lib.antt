@@ -1,0 +1,4 @@
+pub mod Closings
+pub mod Leaves
+pub mod ListLooks
+pub mod Targets

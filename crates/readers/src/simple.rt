@@ -1,0 +1,66 @@
+//! Atoms with what goes on behind them.
+ghost use Rattle.std.specs.Prelude.{◌≢◌, ◌<◌, ◌≤◌, drop, All, IfOk, IfErr};
+ghost use Rattle.ml_lexer.specs.Tokens.{IsSound};
+ghost use Rattle.ml_cursor.specs.Says.{Says};
+ghost use Rattle.ml_grammar.specs.declared.looks.Suffix.{Suffix};
+ghost use Rattle.ml_grammar.specs.Looks.{suffix};
+ghost use Rattle.ml_grammar.specs.Grammar.{simple, Reads};
+ghost use Rattle.ml_grammar.specs.Readings.{IsRead, AreDeep, OneSuffix};
+
+use crate::atom::stub_read_atom;
+use ml_parse_forms::begins::suffix_at;
+use ml_parse_forms::brackets::{close_index, field_of};
+use crate::expression::stub_read_parts;
+use ml_parse_forms::found::{Found, as_part};
+use ml_grammar::{ListKind, Suffix};
+use ml_parse_forms::source::Source;
+use ml_cursor::{ParseErr, skip};
+use ml_tree::Expr;
+use std::alloc::Global;
+
+/// A stub.
+pub fn stub_read_simple(
+    alloc: Global,
+    source: &Source,
+    at: &mut usize,
+    left: u32,
+) -> Result<Found<Expr>, ParseErr>
+    requires texts { All (IsSound source.now.text.now) source.now.tokens.now }
+    ensures ok { IfOk result (λ f. IsRead (Reads source.now.text.now simple (drop at.old source.now.tokens.now)) left f.tree f.depth (drop at.new source.now.tokens.now)) }
+    ensures err { IfErr result (Says source.now.tokens.now (AreDeep (Reads source.now.text.now simple (drop at.old source.now.tokens.now)) left)) }
+{
+    Err(ParseErr::NoMemory)
+}
+
+/// A stub.
+pub fn stub_read_suffix(
+    alloc: Global,
+    source: &Source,
+    at: &mut usize,
+    found: Found<Expr>,
+    left: u32,
+) -> Result<Found<Expr>, ParseErr>
+    requires stands { suffix (drop at.old source.now.tokens.now) ≢ Suffix.Nothing }
+    requires small { found.depth ≤ left }
+    requires texts { All (IsSound source.now.text.now) source.now.tokens.now }
+    ensures ok { IfOk result (λ f. IsRead (OneSuffix source.now.text.now found.tree found.depth (suffix (drop at.old source.now.tokens.now)) (drop at.old source.now.tokens.now)) left f.tree f.depth (drop at.new source.now.tokens.now)) }
+    ensures err { IfErr result (Says source.now.tokens.now (AreDeep (OneSuffix source.now.text.now found.tree found.depth (suffix (drop at.old source.now.tokens.now)) (drop at.old source.now.tokens.now)) left)) }
+{
+    Err(ParseErr::NoMemory)
+}
+
+/// A stub.
+pub fn stub_read_index(
+    alloc: Global,
+    source: &Source,
+    at: &mut usize,
+    found: Found<Expr>,
+    left: u32,
+) -> Result<Found<Expr>, ParseErr>
+    requires small { found.depth < left }
+    requires texts { All (IsSound source.now.text.now) source.now.tokens.now }
+    ensures ok { IfOk result (λ f. IsRead (OneSuffix source.now.text.now found.tree found.depth Suffix.Index (drop at.old source.now.tokens.now)) left f.tree f.depth (drop at.new source.now.tokens.now)) }
+    ensures err { IfErr result (Says source.now.tokens.now (AreDeep (OneSuffix source.now.text.now found.tree found.depth Suffix.Index (drop at.old source.now.tokens.now)) left)) }
+{
+    Err(ParseErr::NoMemory)
+}
