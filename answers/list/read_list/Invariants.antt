@@ -5,9 +5,9 @@ use Rattle.ml_parser.proofs.list.read_list.Given as goal
 
 abbrev pub invariant-parts : goal.invariant-parts
 invariant-parts l = record {
-  so_far : ListSoFar l.source.text (exprs l.kind) (drop l.fn.at l.source.tokens) l.list.tree l.list.depth (drop l.at l.source.tokens);
+  so_far : ListSoFar l.source.text.now (exprs l.kind) (drop l.fn.at l.source.tokens.now) l.list.tree l.list.depth (drop l.at l.source.tokens.now);
   small : l.list.depth ≤ l.left;
 }
 
 abbrev pub decreases-parts : goal.decreases-parts
-decreases-parts l = length (drop l.at l.source.tokens)
+decreases-parts l = length (drop l.at l.source.tokens.now)

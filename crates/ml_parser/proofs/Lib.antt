@@ -1,2 +1,4 @@
+mod Bracketed
 mod Operands
 mod Ranks
+mod Sequences

@@ -21,7 +21,6 @@ use std::alloc::Global;
 
 /// A part of a list of this kind.
 #[cycle(expressions)]
-#[tactic(auto, using(ml_grammar::proofs::Items::expression_read))]
 pub fn read_part(
     kind: ListKind,
     alloc: Global,
@@ -44,7 +43,6 @@ pub fn read_part(
 
 /// A sequence, a tuple or an application: one part is itself, several are a node.
 #[cycle(expressions)]
-#[tactic(auto, using(ml_grammar::proofs::Items::listed_first_deep, ml_grammar::proofs::Items::listed_alone, ml_grammar::proofs::Items::listed_no_room, ml_grammar::proofs::Items::listed_deep, ml_grammar::proofs::Items::listed_read))]
 pub fn read_parts(
     kind: ListKind,
     alloc: Global,
@@ -67,7 +65,6 @@ pub fn read_parts(
 
 /// An operand with the operators up to a level that stand behind it.
 #[cycle(expressions)]
-#[tactic(auto, using(ml_grammar::proofs::Levels::operators_init, ml_grammar::proofs::Levels::operators_step, ml_grammar::proofs::Levels::operators_deep, ml_grammar::proofs::Levels::operators_deep_behind))]
 pub fn read_operators(
     level: u8,
     alloc: Global,
@@ -89,7 +86,6 @@ pub fn read_operators(
 
 /// What was found, with the operators behind it of the level above `lower`.
 #[cycle(expressions)]
-#[tactic(auto, using(ml_grammar::proofs::Levels::level_none, ml_grammar::proofs::Levels::level_right_read, ml_grammar::proofs::Levels::level_right_deep))]
 pub fn read_level(
     lower: u8,
     alloc: Global,
@@ -115,7 +111,6 @@ pub fn read_level(
 
 /// The same for a level that groups to the left.
 #[cycle(expressions)]
-#[tactic(auto, using(ml_grammar::proofs::Levels::to_left_init, ml_grammar::proofs::Levels::to_left_step, ml_grammar::proofs::Levels::to_left_done, ml_grammar::proofs::Levels::to_left_deep))]
 fn read_to_left(
     lower: u8,
     alloc: Global,
@@ -140,7 +135,6 @@ fn read_to_left(
 /// A first operand, the operator behind it, and the second operand, which has the operators up to a
 /// level.
 #[cycle(expressions)]
-#[tactic(auto, using(ml_grammar::proofs::Levels::infix_no_room, ml_grammar::proofs::Levels::infix_deep, ml_grammar::proofs::Levels::infix_read))]
 fn read_second(
     joint: Joint,
     level: u8,
@@ -164,7 +158,6 @@ fn read_second(
 
 /// A sequence, and the token that has to stand behind it.
 #[cycle(expressions)]
-#[tactic(auto, using(ml_grammar::proofs::Handed::until_read, ml_grammar::proofs::Handed::until_deep, ml_grammar::proofs::Handed::until_other))]
 pub fn read_until(
     end: Front,
     alloc: Global,
@@ -182,7 +175,6 @@ pub fn read_until(
 
 /// The token that has to stand here, and the sequence behind it.
 #[cycle(expressions)]
-#[tactic(auto, using(ml_grammar::proofs::Handed::behind_read, ml_grammar::proofs::Handed::behind_deep, ml_grammar::proofs::Handed::behind_other))]
 pub fn read_behind(
     start: Front,
     alloc: Global,

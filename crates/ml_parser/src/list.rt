@@ -19,7 +19,6 @@ use std::alloc::Global;
 
 /// The parts of a list, one or more.
 #[cycle(expressions)]
-#[tactic(auto, using(ml_grammar::proofs::Items::list_init, ml_grammar::proofs::Items::list_deep, ml_grammar::proofs::Handed::list_goes, ml_grammar::proofs::Handed::list_read, ml_grammar::proofs::Items::expression_read, ml_grammar::proofs::Items::expression_deep))]
 pub fn read_list(
     kind: ListKind,
     alloc: Global,

@@ -20,7 +20,6 @@ use std::alloc::Global;
 
 /// An atom with the `.name` and `.[seq]` behind it.
 #[cycle(expressions)]
-#[tactic(auto, using(ml_grammar::proofs::Levels::simple_init, ml_grammar::proofs::Levels::simple_step, ml_grammar::proofs::Levels::simple_done, ml_grammar::proofs::Levels::simple_deep, ml_grammar::proofs::Levels::simple_deep_behind))]
 pub fn read_simple(
     alloc: Global,
     source: &Source,
@@ -40,7 +39,6 @@ pub fn read_simple(
 
 /// What was found, with one `.name` or `.[seq]`.
 #[cycle(expressions)]
-#[tactic(auto, using(ml_grammar::proofs::Levels::suffix_no_room, ml_grammar::proofs::Handed::field_found, ml_grammar::proofs::Handed::field_none))]
 fn read_suffix(
     alloc: Global,
     source: &Source,
@@ -63,7 +61,6 @@ fn read_suffix(
 
 /// What was found, with one `.[seq]`.
 #[cycle(expressions)]
-#[tactic(auto, using(ml_grammar::proofs::Levels::index_deep, ml_grammar::proofs::Levels::index_not_closed, ml_grammar::proofs::Levels::index_read, ml_grammar::proofs::Handed::takes))]
 fn read_index(
     alloc: Global,
     source: &Source,

@@ -4,7 +4,8 @@ use Rattle.ml_grammar.specs.Looks.{behind_bar}
 use Rattle.ml_grammar.specs.Grammar.{arms, binds, operators, Reads, exprs, fields}
 use Rattle.ml_grammar.proofs.Items.{ListSoFar}
 use Rattle.ml_grammar.specs.Readings.{IsRead}
-use Rattle.ml_grammar.proofs.Levels.{ToLeftSoFar, SimpleSoFar}
+use Rattle.ml_parser.proofs.Sequences.{LeftSoFar}
+use Rattle.ml_grammar.proofs.Levels.{SimpleSoFar}
 use Rattle.ml_parser.proofs.Ranks.{part_rank, parts_rank}
 use Rattle.ml_parser.proofs.+expressions.Given as goal
 
@@ -136,57 +137,57 @@ decreases-expression::read_parts l = 32 * l.left + parts_rank l.kind
 
 abbrev pub invariant-arms::read_arms-arms : goal.invariant-arms::read_arms-arms
 invariant-arms::read_arms-arms l = record {
-  so_far : ListSoFar l.source.text arms (behind_bar (drop l.fn.at l.source.tokens)) l.list.tree l.list.depth (drop l.at l.source.tokens);
+  so_far : ListSoFar l.source.text.now arms (behind_bar (drop l.fn.at l.source.tokens.now)) l.list.tree l.list.depth (drop l.at l.source.tokens.now);
   small : l.list.depth ≤ l.left;
 }
 
 abbrev pub decreases-arms::read_arms-arms : goal.decreases-arms::read_arms-arms
-decreases-arms::read_arms-arms l = length (drop l.at l.source.tokens)
+decreases-arms::read_arms-arms l = length (drop l.at l.source.tokens.now)
 
 abbrev pub invariant-bind::read_binds-binds : goal.invariant-bind::read_binds-binds
 invariant-bind::read_binds-binds l = record {
-  so_far : ListSoFar l.source.text binds (drop l.fn.at l.source.tokens) l.list.tree l.list.depth (drop l.at l.source.tokens);
+  so_far : ListSoFar l.source.text.now binds (drop l.fn.at l.source.tokens.now) l.list.tree l.list.depth (drop l.at l.source.tokens.now);
   small : l.list.depth ≤ l.left;
 }
 
 abbrev pub decreases-bind::read_binds-binds : goal.decreases-bind::read_binds-binds
-decreases-bind::read_binds-binds l = length (drop l.at l.source.tokens)
+decreases-bind::read_binds-binds l = length (drop l.at l.source.tokens.now)
 
 abbrev pub invariant-expression::read_operators-levels : goal.invariant-expression::read_operators-levels
-invariant-expression::read_operators-levels l = IsRead (Reads l.source.text (operators l.lower) (drop l.fn.at l.source.tokens)) l.left l.found.tree l.found.depth (drop l.at l.source.tokens)
+invariant-expression::read_operators-levels l = IsRead (Reads l.source.text.now (operators l.lower) (drop l.fn.at l.source.tokens.now)) l.left l.found.tree l.found.depth (drop l.at l.source.tokens.now)
 
 abbrev pub invariant-expression::read_to_left-operators : goal.invariant-expression::read_to_left-operators
 invariant-expression::read_to_left-operators l = record {
-  so_far : ToLeftSoFar l.source.text l.lower l.fn.first.tree l.fn.first.depth (drop l.fn.at l.source.tokens) l.found.tree l.found.depth (drop l.at l.source.tokens);
+  so_far : LeftSoFar l.source.text.now l.lower l.fn.first.tree l.fn.first.depth (drop l.fn.at l.source.tokens.now) l.found.tree l.found.depth (drop l.at l.source.tokens.now);
   small : l.found.depth ≤ l.left;
 }
 
 abbrev pub decreases-expression::read_to_left-operators : goal.decreases-expression::read_to_left-operators
-decreases-expression::read_to_left-operators l = length (drop l.at l.source.tokens)
+decreases-expression::read_to_left-operators l = length (drop l.at l.source.tokens.now)
 
 abbrev pub invariant-list::read_list-parts : goal.invariant-list::read_list-parts
 invariant-list::read_list-parts l = record {
-  so_far : ListSoFar l.source.text (exprs l.kind) (drop l.fn.at l.source.tokens) l.list.tree l.list.depth (drop l.at l.source.tokens);
+  so_far : ListSoFar l.source.text.now (exprs l.kind) (drop l.fn.at l.source.tokens.now) l.list.tree l.list.depth (drop l.at l.source.tokens.now);
   small : l.list.depth ≤ l.left;
 }
 
 abbrev pub decreases-list::read_list-parts : goal.decreases-list::read_list-parts
-decreases-list::read_list-parts l = length (drop l.at l.source.tokens)
+decreases-list::read_list-parts l = length (drop l.at l.source.tokens.now)
 
 abbrev pub invariant-record::read_fields-fields : goal.invariant-record::read_fields-fields
 invariant-record::read_fields-fields l = record {
-  so_far : ListSoFar l.source.text fields (drop l.fn.at l.source.tokens) l.list.tree l.list.depth (drop l.at l.source.tokens);
+  so_far : ListSoFar l.source.text.now fields (drop l.fn.at l.source.tokens.now) l.list.tree l.list.depth (drop l.at l.source.tokens.now);
   small : l.list.depth ≤ l.left;
 }
 
 abbrev pub decreases-record::read_fields-fields : goal.decreases-record::read_fields-fields
-decreases-record::read_fields-fields l = length (drop l.at l.source.tokens)
+decreases-record::read_fields-fields l = length (drop l.at l.source.tokens.now)
 
 abbrev pub invariant-simple::read_simple-suffixes : goal.invariant-simple::read_simple-suffixes
 invariant-simple::read_simple-suffixes l = record {
-  so_far : SimpleSoFar l.source.text (drop l.fn.at l.source.tokens) l.found.tree l.found.depth (drop l.at l.source.tokens);
+  so_far : SimpleSoFar l.source.text.now (drop l.fn.at l.source.tokens.now) l.found.tree l.found.depth (drop l.at l.source.tokens.now);
   small : l.found.depth ≤ l.left;
 }
 
 abbrev pub decreases-simple::read_simple-suffixes : goal.decreases-simple::read_simple-suffixes
-decreases-simple::read_simple-suffixes l = length (drop l.at l.source.tokens)
+decreases-simple::read_simple-suffixes l = length (drop l.at l.source.tokens.now)
