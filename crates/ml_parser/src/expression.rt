@@ -6,16 +6,16 @@ ghost use Rattle.ml_grammar.specs.Looks.{operator_at};
 ghost use Rattle.ml_grammar.specs.Grammar.{operators, listed, part_of, Reads, LevelBy};
 ghost use Rattle.ml_grammar.specs.Readings.{IsRead, AreDeep, Until, Behind, Infix, Levels};
 
-use ml_parse_forms::found::{Found, as_part, closed_by, expect};
 use crate::list::read_list;
-use ml_parse_forms::lists::goes_on;
-use ml_grammar::{Joint, ListKind};
-use ml_parse_forms::make::{gathered, infix};
 use crate::operand::read_operand;
-use ml_parse_forms::operators::{LAST_LEVEL, groups_left, operator_at};
 use crate::simple::read_simple;
-use ml_parse_forms::source::Source;
 use ml_cursor::{Front, ParseErr, pass};
+use ml_grammar::{Joint, ListKind};
+use ml_parse_forms::found::{Found, as_part, closed_by, expect};
+use ml_parse_forms::lists::goes_on;
+use ml_parse_forms::make::{gathered, infix};
+use ml_parse_forms::operators::{LAST_LEVEL, groups_left, operator_at};
+use ml_parse_forms::source::Source;
 use ml_tree::Expr;
 use std::alloc::Global;
 

@@ -13,10 +13,10 @@ ghost use Rattle.ml_grammar.specs.Programs.{AnItemBy, IsItem, Derives, NoProgram
 ghost use Rattle.ml_grammar.specs.Readings.{AreDeep};
 
 use crate::bind::read_binds;
-use ml_grammar::ItemLead;
-use ml_parse_forms::source::Source;
 use ml_cursor::{Front, ParseErr, accept, extent, front_at, pass, refusal_at, span_at};
+use ml_grammar::ItemLead;
 use ml_lexer::Token;
+use ml_parse_forms::source::Source;
 use ml_parse_types::read_decls;
 use ml_tree::{Bind, Decl, Item, ItemKind};
 use oxml_base::{Items, Span};
@@ -63,11 +63,7 @@ fn read_let_item(alloc: Global, source: &Source, at: &mut usize) -> Result<Item,
 }
 
 /// `decl (and decl)*`
-fn read_all_decls(
-    alloc: Global,
-    tokens: &[Token],
-    at: &mut usize,
-) -> Result<Items<Decl>, ParseErr>
+fn read_all_decls(alloc: Global, tokens: &[Token], at: &mut usize) -> Result<Items<Decl>, ParseErr>
     ensures ok { IfOk result (λ decls. ReadsDecls (drop at.old tokens.now) (got decls (drop at.new tokens.now))) }
     ensures err { IfErr result (Says tokens.now (IsNone ReadsDecls (drop at.old tokens.now))) }
 {

@@ -8,11 +8,11 @@ ghost use Rattle.ml_grammar.specs.Grammar.{exprs, Lists};
 ghost use Rattle.ml_grammar.specs.Readings.{IsRead, AreDeep};
 
 use crate::expression::read_part;
-use ml_parse_forms::lists::goes_on;
-use ml_parse_forms::found::{Found, no_parts, with_part};
-use ml_grammar::ListKind;
-use ml_parse_forms::source::Source;
 use ml_cursor::ParseErr;
+use ml_grammar::ListKind;
+use ml_parse_forms::found::{Found, no_parts, with_part};
+use ml_parse_forms::lists::goes_on;
+use ml_parse_forms::source::Source;
 use ml_tree::Expr;
 use oxml_base::Items;
 use std::alloc::Global;

@@ -9,17 +9,17 @@ ghost use Rattle.ml_grammar.specs.Grammar.{operators, Reads, OperandBy, ElseBy};
 ghost use Rattle.ml_grammar.specs.Readings.{IsRead, AreDeep, Branches};
 
 use crate::arms::read_arms;
-use ml_parse_forms::begins::lead_at;
 use crate::bind::read_binds;
 use crate::expression::{read_behind, read_parts, read_until};
-use ml_parse_forms::found::{Found, just, nothing, open_form, pair};
-use ml_parse_forms::forms::{borrow, choice, fun, function, let_in, matching};
-use ml_grammar::{Lead, ListKind};
-use ml_parse_forms::make::{exclave, minus, worded};
 use crate::overwrite::{read_block, read_overwrite};
+use ml_cursor::{Front, ParseErr, accept};
+use ml_grammar::{Lead, ListKind};
+use ml_parse_forms::begins::lead_at;
+use ml_parse_forms::forms::{borrow, choice, fun, function, let_in, matching};
+use ml_parse_forms::found::{Found, just, nothing, open_form, pair};
+use ml_parse_forms::make::{exclave, minus, worded};
 use ml_parse_forms::source::Source;
 use ml_parse_forms::target::{read_all_params, read_borrowed};
-use ml_cursor::{Front, ParseErr, accept};
 use ml_tree::{Expr, Words};
 use std::alloc::Global;
 

@@ -8,15 +8,15 @@ ghost use Rattle.ml_grammar.specs.declared.looks.Lead.{Lead};
 ghost use Rattle.ml_grammar.specs.Grammar.{OperandBy, ConBy};
 ghost use Rattle.ml_grammar.specs.Readings.{IsRead, AreDeep};
 
-use ml_parse_forms::brackets::close_paren;
 use crate::expression::{read_level, read_operators};
+use crate::simple::read_simple;
+use ml_cursor::{Front, ParseErr, front_at, refusal_at};
+use ml_parse_forms::brackets::close_paren;
 use ml_parse_forms::found::{Found, before, open_form};
 use ml_parse_forms::make::{constructor, overwrite};
 use ml_parse_forms::operators::CONS_LEVEL;
-use crate::simple::read_simple;
 use ml_parse_forms::source::Source;
 use ml_parse_forms::target::read_overwritten;
-use ml_cursor::{Front, ParseErr, front_at, refusal_at};
 use ml_tree::Expr;
 use std::alloc::Global;
 

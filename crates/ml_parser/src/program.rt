@@ -4,10 +4,10 @@ ghost use Rattle.ml_cursor.specs.Says.{Says};
 ghost use Rattle.ml_grammar.specs.Programs.{Derives, NoProgram};
 
 use crate::item::read_items;
-use ml_parse_forms::source::Source;
 use ml_cursor::{ParseErr, closed_lets};
 use ml_lexer::Token;
 use ml_numbers::number;
+use ml_parse_forms::source::Source;
 use ml_tree::Program;
 use std::alloc::Global;
 

@@ -8,13 +8,13 @@ ghost use Rattle.ml_grammar.specs.Grammar.{simple, Reads};
 ghost use Rattle.ml_grammar.specs.Readings.{IsRead, AreDeep, OneSuffix};
 
 use crate::atom::read_atom;
+use crate::expression::read_parts;
+use ml_cursor::{ParseErr, skip};
+use ml_grammar::{ListKind, Suffix};
 use ml_parse_forms::begins::suffix_at;
 use ml_parse_forms::brackets::{close_index, field_of};
-use crate::expression::read_parts;
 use ml_parse_forms::found::{Found, as_part};
-use ml_grammar::{ListKind, Suffix};
 use ml_parse_forms::source::Source;
-use ml_cursor::{ParseErr, skip};
 use ml_tree::Expr;
 use std::alloc::Global;
 
