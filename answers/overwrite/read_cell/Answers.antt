@@ -17,10 +17,10 @@ returns-in_err-first-clause-err c =
 pub returns-in_err-first-2-clause-err : goal.returns-in_err-first-2-clause-err
 returns-in_err-first-2-clause-err c = relay _ _ _ (cell_no_pair c.in_ok-head.ensures.passed c.in_ok-first.ensures.ok.reads) c.in_err-first-2.ensures.err c.from_residual-in_err-first-2.ensures.1
 
-pub stub_read_level-requires-clause-small : goal.stub_read_level-requires-clause-small
-stub_read_level-requires-clause-small c =
+pub stub_read_level-requires : goal.stub_read_level-requires
+stub_read_level-requires c =
     let depth = ap (λ (f : Found Expr). f.depth) c.in_ok-first-2.ensures.same in
-    omega (arith, depth, c.in_ok-first.ensures.ok.small)
+    (omega (arith, c.in_ok-head.ensures.below), (search rules, (omega (arith, depth, c.in_ok-first.ensures.ok.small), search rules)))
 
 pub returns-in_err-cell-clause-err : goal.returns-in_err-cell-clause-err
 returns-in_err-cell-clause-err c =

@@ -1,4 +1,5 @@
 mod Bracketed
+mod ItemReadings
 mod Operands
 mod Ranks
 mod Sequences

@@ -44,7 +44,6 @@ fn end_of_last(binds: &[Bind]) -> u32
 }
 
 /// `let [rec] bind (and bind)*`
-#[tactic(auto, using(ml_grammar::proofs::Programs::let_item_read, ml_grammar::proofs::Programs::let_item_deep, ml_grammar::proofs::Accepts::rec_place, ml_grammar::proofs::Accepts::rec_flag))]
 fn read_let_item(alloc: Global, source: &Source, at: &mut usize) -> Result<Item, ParseErr>
     requires texts { All (IsSound source.now.text.now) source.now.tokens.now }
     ensures ok { IfOk result (IsItem source.now.text.now ItemLead.Let (drop at.old source.now.tokens.now) (drop at.new source.now.tokens.now)) }
@@ -74,7 +73,6 @@ fn read_all_decls(alloc: Global, tokens: &[Token], at: &mut usize) -> Result<Ite
 }
 
 /// `type decl (and decl)*`
-#[tactic(auto, using(ml_grammar::proofs::Programs::types_item_read, ml_grammar::proofs::Programs::types_item_deep))]
 fn read_types_item(alloc: Global, source: &Source, at: &mut usize) -> Result<Item, ParseErr>
     ensures ok { IfOk result (IsItem source.now.text.now ItemLead.Types (drop at.old source.now.tokens.now) (drop at.new source.now.tokens.now)) }
     ensures err { IfErr result (Says source.now.tokens.now (AreDeep (AnItemBy source.now.text.now ItemLead.Types (drop at.old source.now.tokens.now)) 1000)) }
@@ -120,7 +118,6 @@ fn read_item(alloc: Global, source: &Source, at: &mut usize) -> Result<Item, Par
 }
 
 /// All items, with `;;` among them.
-#[tactic(auto, using(ml_grammar::proofs::Programs::items_init, ml_grammar::proofs::Programs::items_between, ml_grammar::proofs::Programs::items_step, ml_grammar::proofs::Programs::items_done, ml_grammar::proofs::Programs::items_deep))]
 pub fn read_items(alloc: Global, source: &Source) -> Result<Items<Item>, ParseErr>
     requires texts { All (IsSound source.now.text.now) source.now.tokens.now }
     ensures ok { IfOk result (λ items. Derives source.now.text.now source.now.tokens.now (numbered items)) }
@@ -129,10 +126,11 @@ pub fn read_items(alloc: Global, source: &Source) -> Result<Items<Item>, ParseEr
     let mut list = Items::new(alloc);
     let mut at = 0;
     'items: while at < source.tokens.len() {
-        if !accept(source.tokens, &mut at, Front::SemiSemi) {
-            let item = read_item(alloc, source, &mut at)?;
-            list.push(item)?;
+        if accept(source.tokens, &mut at, Front::SemiSemi) {
+            continue;
         }
+        let item = read_item(alloc, source, &mut at)?;
+        list.push(item)?;
     }
     Ok(list)
 }

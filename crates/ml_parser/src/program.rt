@@ -1,6 +1,7 @@
 ghost use Rattle.std.specs.Prelude.{◌≤◌, All, length, IfOk, IfErr};
 ghost use Rattle.ml_lexer.specs.Tokens.{IsSound};
 ghost use Rattle.ml_cursor.specs.Says.{Says};
+ghost use Rattle.ml_numbers.specs.Ids.{IsNumbered};
 ghost use Rattle.ml_grammar.specs.Programs.{Derives, NoProgram};
 
 use crate::item::read_items;
@@ -18,6 +19,7 @@ pub fn parse(alloc: Global, text: &[u8], tokens: &[Token]) -> Result<Program, Pa
     requires texts { All (IsSound text.now) tokens.now }
     requires few { length tokens.now ≤ 1000000 }
     ensures ok { IfOk result (Derives text.now tokens.now) }
+    ensures counts_up { IfOk result IsNumbered }
     ensures err { IfErr result (Says tokens.now (NoProgram text.now tokens.now)) }
 {
     let Ok(lets) = closed_lets(alloc, tokens) else {

@@ -668,10 +668,10 @@ overwrite::read_cell-returns-in_err-first-clause-err t c =
 pub overwrite::read_cell-returns-in_err-first-2-clause-err : goal.overwrite::read_cell-returns-in_err-first-2-clause-err
 overwrite::read_cell-returns-in_err-first-2-clause-err t c = relay _ _ _ (cell_no_pair c.in_ok-head.ensures.passed c.in_ok-first.ensures.ok.reads) c.in_err-first-2.ensures.err c.from_residual-in_err-first-2.ensures.1
 
-pub overwrite::read_cell-read_level-requires-clause-small : goal.overwrite::read_cell-read_level-requires-clause-small
-overwrite::read_cell-read_level-requires-clause-small t c =
+pub overwrite::read_cell-read_level-requires : goal.overwrite::read_cell-read_level-requires
+overwrite::read_cell-read_level-requires t c =
     let depth = ap (λ (f : Found Expr). f.depth) c.in_ok-first-2.ensures.same in
-    omega (arith, depth, c.in_ok-first.ensures.ok.small)
+    (omega (arith, c.in_ok-head.ensures.below), (search rules, (omega (arith, depth, c.in_ok-first.ensures.ok.small), search rules)))
 
 pub overwrite::read_cell-returns-in_err-cell-clause-err : goal.overwrite::read_cell-returns-in_err-cell-clause-err
 overwrite::read_cell-returns-in_err-cell-clause-err t c =
