@@ -56,8 +56,5 @@ bar_place tokens at new s p q = place_of (bar_flag (drop at tokens) s) p (λ n. 
 pub and_flag : {b : Bool} (ts : List Token) → IsTrue b ↔ (front ts ≡ F.And) → b ≡ is_and (front ts)
 and_flag ts s = flag_of is_and (λ e. ap is_and e) (not_and (front ts)) s
 
-pub else_flag : {b : Bool} (ts : List Token) → IsTrue b ↔ (front ts ≡ F.Else) → b ≡ is_else (front ts)
-else_flag ts s = flag_of is_else (λ e. ap is_else e) (not_else (front ts)) s
-
 pub colon_flag : {b : Bool} (ts : List Token) → IsTrue b ↔ (front ts ≡ F.Colon) → b ≡ is_colon (front ts)
 colon_flag ts s = flag_of is_colon (λ e. ap is_colon e) (not_colon (front ts)) s

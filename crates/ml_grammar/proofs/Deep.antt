@@ -1,5 +1,5 @@
 -- Parts that are too deep make wholes that are.
-use Rattle.std.proofs.Common.{◌≡◌, ℕ, ◌+◌, ◌<◌, ◌≤◌, max, List, subst, sym, arith}
+use Rattle.std.proofs.Common.{◌≡◌, ℕ, ◌+◌, ◌<◌, ◌≤◌, List, subst, sym, arith}
 use Rattle.ml_lexer.specs.declared.token.Token.{Token}
 use Rattle.ml_cursor.specs.declared.error.ParseErr.{ParseErr}
 use Rattle.ml_cursor.specs.declared.error.ParseErr.TheVariants.{Refused, NoMemory}
@@ -54,22 +54,9 @@ pub says : {P Q : Type 0} (tokens : List Token) → (P → Q) → (e : ParseErr)
 says tokens f (Refused r) h = (h.0, f h.1)
 says tokens f NoMemory h = tt
 
-pub max_zero : (a : ℕ) → max a 0 ≡ a
-max_zero a = omega arith
-
-pub zero_max : (a : ℕ) → max 0 a ≡ a
-zero_max a = omega arith
-
-pub max_assoc : (a b c : ℕ) → max (max a b) c ≡ max a (max b c)
-max_assoc a b c = omega arith
-
 -- what was made is what was read
 pub read_as : {A : Type 0} {P : A → ℕ → List Token → Type 0} {x y : A} {c d left : ℕ} (r : List Token) → P y c r → x ≡ y → d ≡ c → d ≤ left → IsRead P left x d r
 read_as {A} {P} {x} {y} {c} {d} r p e f small = record { reads = subst (λ x. P x d r) (sym e) (subst (λ d. P y d r) (sym f) p); small = small }
-
--- what holds of one list of tokens holds of the same
-pub read_at : {A : Type 0} {us vs : List Token} {x : A} {d left : ℕ} (P : List Token → A → ℕ → List Token → Type 0) (r : List Token) → us ≡ vs → IsRead (P us) left x d r → IsRead (P vs) left x d r
-read_at {A} {us} {vs} {x} {d} {left} P r e i = subst (λ us. IsRead (P us) left x d r) e i
 
 pub deep_at : {A : Type 0} {us vs : List Token} {left : ℕ} (P : List Token → A → ℕ → List Token → Type 0) → us ≡ vs → AreDeep (P us) left → AreDeep (P vs) left
 deep_at {A} {us} {vs} {left} P e i = subst (λ us. AreDeep (P us) left) e i

@@ -1,5 +1,5 @@
 -- Operators, fields and indices: where one of them is refused, and that it is found.
-use Rattle.std.proofs.Common.{◌≡◌, ◌≢◌, ℕ, zero, suc, ◌+◌, ◌-◌, ◌<◌, ◌≤◌, max, true, false, List, drop, Some, None, refl, subst, ap, sym, ◌∙◌, arith}
+use Rattle.std.proofs.Common.{◌≡◌, ◌≢◌, ℕ, zero, suc, ◌+◌, ◌-◌, ◌<◌, ◌≤◌, max, false, List, drop, Some, None, refl, subst, ap, sym, ◌∙◌, arith}
 use Rattle.oxml_base.specs.declared.span.Span.{Span}
 use Rattle.ml_lexer.specs.declared.token.Token.{Token}
 use Rattle.ml_cursor.specs.declared.front.Front.TheVariants as F
@@ -12,7 +12,7 @@ use Rattle.ml_grammar.specs.declared.looks.Suffix.TheVariants as S
 use Rattle.ml_grammar.specs.declared.looks.Joint.{Joint}
 use Rattle.ml_grammar.specs.Looks.{suffix, groups_left, operator_at}
 use Rattle.ml_grammar.specs.Trees.{node, start_of, joined}
-use Rattle.ml_grammar.specs.Grammar.{atom, simple, seq, operators, Reads, SuffixBy, LevelBy, a_simple, a_level, no_suffix, a_field, an_index, no_operator, to_left, to_right}
+use Rattle.ml_grammar.specs.Grammar.{atom, simple, seq, operators, Reads, SuffixBy, LevelBy, a_simple, a_level, no_suffix, a_field, an_index, no_operator, to_right}
 use Rattle.ml_grammar.specs.Readings.{IsRead, AreDeep, Infix, infix_of, Levels, OneSuffix, one_field, one_index}
 use Rattle.ml_grammar.proofs.Deep.{Inside, inside, Along, along, deep_inside, deep_along, never, read_as, deep_at}
 use Rattle.ml_grammar.proofs.Growth.{suffix_grows, level_grows}
@@ -66,56 +66,7 @@ level_right_deep {text} {n} {k} {o} {a} {da} {left} {ts} q g f h = deep_along (�
     inner : {e : Expr} {d : ℕ} {r : List Token} → LevelBy text k false (Some o) ts a da e d r → Along (Infix text (suc k) o a da ts) d
     inner (to_right x) = along _ _ _ (infix_of x) (omega arith)
 
--- operators that group to the left, read one by one: from `a` of depth `da` at `ts` on, what goes on is
--- what goes on from the first operand
-pub record ToLeftSoFar (text : List ℕ) (k : ℕ) (first : Expr) (depth : ℕ) (start : List Token) (a : Expr) (da : ℕ) (ts : List Token) : Type 0 where
-  pub forth : (e : Expr) (d : ℕ) (r : List Token) → Levels text k a da ts e d r → Levels text k first depth start e d r
-  pub back : (e : Expr) (d : ℕ) (r : List Token) → Levels text k first depth start e d r → Levels text k a da ts e d r
-
-pub to_left_init : {text : List ℕ} {k : ℕ} {a : Expr} {da : ℕ} {ts : List Token} → ToLeftSoFar text k a da ts a da ts
-to_left_init = record { forth = λ e d r x. x; back = λ e d r x. x }
-
-left_in : {text : List ℕ} {n k : ℕ} {o : Joint} {a e : Expr} {da d : ℕ} {ts r : List Token} → n ≡ suc k → groups_left n ≡ true → operator_at n ts ≡ Some o → LevelBy text k true (Some o) ts a da e d r → Levels text k a da ts e d r
-left_in {text} {n} {k} {o} {a} {e} {da} {d} {ts} {r} q g f x =
-    subst (λ b. LevelBy text k b (operator_at (suc k) ts) ts a da e d r) (sym (ap groups_left (sym q) ∙ g))
-    (subst (λ o. LevelBy text k true o ts a da e d r) (sym (ap (λ n. operator_at n ts) (sym q) ∙ f)) x)
-
-left_of : {text : List ℕ} {n k : ℕ} {o : Joint} {a e : Expr} {da d : ℕ} {ts r : List Token} → n ≡ suc k → groups_left n ≡ true → operator_at n ts ≡ Some o → Levels text k a da ts e d r → LevelBy text k true (Some o) ts a da e d r
-left_of {text} {n} {k} {o} {a} {e} {da} {d} {ts} {r} q g f x =
-    subst (λ o. LevelBy text k true o ts a da e d r) (ap (λ n. operator_at n ts) (sym q) ∙ f)
-    (subst (λ b. LevelBy text k b (operator_at (suc k) ts) ts a da e d r) (ap groups_left (sym q) ∙ g) x)
-
--- one step: from `a` at `ts` to what its operator makes of it
-step_forth : {text : List ℕ} {k : ℕ} {o : Joint} {a c e : Expr} {da dc d : ℕ} {ts us r : List Token} → groups_left (suc k) ≡ true → Infix text k o a da ts c dc us → Levels text k c dc us e d r → LevelBy text k true (Some o) ts a da e d r
-step_forth {text} {k} {o} {a} {c} {e} {da} {dc} {d} {ts} {us} {r} g (infix_of {rest = vs} {b = b} {d = db} x) y =
-    to_left x (subst (λ w. LevelBy text k w (operator_at (suc k) vs) vs (joined o a b) (max da db + 1) e d r) g y)
-
-step_back : {text : List ℕ} {k : ℕ} {o : Joint} {a c e : Expr} {da dc d : ℕ} {ts us r : List Token} → groups_left (suc k) ≡ true → Infix text k o a da ts c dc us → LevelBy text k true (Some o) ts a da e d r → Levels text k c dc us e d r
-step_back {text} {k} {o} {a} {e = e} {da} {d = d} {r = r} g (infix_of {rest = vs} {b = b} {d = db} x) (to_left {vs = vs'} {b = b'} {db = db'} z y) =
-    subst (λ w. LevelBy text k w (operator_at (suc k) vs) vs (joined o a b) (max da db + 1) e d r) (sym g)
-    (moved (λ b db vs. LevelBy text k true (operator_at (suc k) vs) vs (joined o a b) (max da db + 1) e d r) (same x z) y)
-
-pub to_left_step : {text : List ℕ} {n k : ℕ} {o : Joint} {first a c : Expr} {depth da dc : ℕ} {start ts us : List Token} → n ≡ suc k → groups_left n ≡ true → operator_at n ts ≡ Some o → ToLeftSoFar text k first depth start a da ts → Infix text k o a da ts c dc us → ToLeftSoFar text k first depth start c dc us
-to_left_step {n = n} {k = k} q g f i x =
-    let h : groups_left (suc k) ≡ true = ap groups_left (sym q) ∙ g in
-    record {
-      forth = λ e d r y. i.forth e d r (left_in q g f (step_forth h x y));
-      back = λ e d r y. step_back h x (left_of q g f (i.back e d r y));
-    }
-
-pub to_left_done : {text : List ℕ} {n k : ℕ} {first a : Expr} {depth da left : ℕ} {start ts : List Token} → n ≡ suc k → operator_at n ts ≡ None → ToLeftSoFar text k first depth start a da ts → da ≤ left → IsRead (Levels text k first depth start) left a da ts
-to_left_done {a = a} {da = da} {ts = ts} q f i h = let j = level_none q f h in record { reads = i.forth a da ts j.reads; small = h }
-
-pub to_left_deep : {text : List ℕ} {n k : ℕ} {o : Joint} {first a : Expr} {depth da left : ℕ} {start ts : List Token} → n ≡ suc k → groups_left n ≡ true → operator_at n ts ≡ Some o → ToLeftSoFar text k first depth start a da ts → AreDeep (Infix text k o a da ts) left → AreDeep (Levels text k first depth start) left
-to_left_deep {text} {n} {k} {o} {a = a} {da = da} {ts = ts} q g f i h = deep_along (λ e d r x. inner (left_of q g f (i.back e d r x))) h
-  where
-    inner : {e : Expr} {d : ℕ} {r : List Token} → LevelBy text k true (Some o) ts a da e d r → Along (Infix text k o a da ts) d
-    inner (to_left x y) = let m = level_grows y in along _ _ _ (infix_of x) (omega arith)
-
 -- the levels one by one
-
-pub operators_init : {text : List ℕ} {n : ℕ} {ts r : List Token} {e : Expr} {d left : ℕ} → n ≡ 0 → IsRead (Reads text (operators 0) ts) left e d r → IsRead (Reads text (operators n) ts) left e d r
-operators_init {text} {n} {ts} {r} {e} {d} {left} q i = subst (λ n. IsRead (Reads text (operators n) ts) left e d r) (sym q) i
 
 pub operators_step : {text : List ℕ} {n k : ℕ} {ts us r : List Token} {a e : Expr} {da d left : ℕ} → n ≡ suc k → Reads text (operators k) ts a da us → IsRead (Levels text k a da us) left e d r → IsRead (Reads text (operators n) ts) left e d r
 operators_step {text} {n} {k} {ts} {r = r} {e = e} {d = d} {left = left} q x i =
@@ -155,12 +106,6 @@ suffix_no_room h = record { deep = λ e d r x. let i = one_more x in omega arith
 
 pub field_read : {text : List ℕ} {a e : Expr} {da d left : ℕ} {ts us r : List Token} {s name : Span} → Takes F.Dot ts us s → Takes F.Lower us r name → e ≡ node (start_of a) name.end (E.Field a name) → d ≡ da + 1 → da < left → IsRead (OneSuffix text a da S.Field ts) left e d r
 field_read {r = r} p q h k m = read_as r (one_field p q) h k (omega arith)
-
-pub field_no_dot : {text : List ℕ} {a : Expr} {da left : ℕ} {ts : List Token} → front ts ≢ F.Dot → AreDeep (OneSuffix text a da S.Field ts) left
-field_no_dot {text} {a} {da} {left} {ts} n = never (λ e d r x. inner x)
-  where
-    inner : {e : Expr} {d : ℕ} {r : List Token} → OneSuffix text a da S.Field ts e d r → ⊥
-    inner (one_field p q) = n p.stands
 
 pub field_no_name : {text : List ℕ} {a : Expr} {da left : ℕ} {ts us : List Token} {s : Span} → Takes F.Dot ts us s → front us ≢ F.Lower → AreDeep (OneSuffix text a da S.Field ts) left
 field_no_name {text} {a} {da} {left} {ts} t n = never (λ e d r x. inner x)

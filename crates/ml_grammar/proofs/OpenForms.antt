@@ -1,5 +1,5 @@
 -- Open forms and prefixes: where one of them is refused, and that it is found.
-use Rattle.std.proofs.Common.{◌≡◌, ◌≢◌, ℕ, ◌+◌, ◌<◌, ◌≤◌, max, Bool, List, drop, Option, subst, ap, sym, ◌∙◌, arith}
+use Rattle.std.proofs.Common.{◌≡◌, ℕ, ◌+◌, ◌<◌, ◌≤◌, max, Bool, List, drop, Option, subst, ap, sym, ◌∙◌, arith}
 use Rattle.oxml_base.specs.declared.span.Span.{Span}
 use Rattle.ml_lexer.specs.declared.token.Token.{Token}
 use Rattle.ml_cursor.specs.declared.front.Front.TheVariants as F
@@ -243,21 +243,6 @@ if_read {text} {ts} {us} {vs} {r} {s} {a} {b} {e} {o} {da} {db} {d} {left} f g w
     made (until x q) (branches z n) = an_if x q z n
 
 -- overwrite_
-
-pub overwrite_no_name : {text : List ℕ} {ts us : List Token} {left : ℕ} → us ≡ drop 1 ts → front us ≢ F.Lower → AreDeep (OperandBy text O.Overwrite ts) left
-overwrite_no_name {text} {ts} {us} e h = never (λ y d r q. inner q)
-  where
-    inner : {y : Expr} {d : ℕ} {r : List Token} → OperandBy text O.Overwrite ts y d r → ⊥
-    inner (an_overwrite p q x) = h (ap front e ∙ p.stands)
-
-pub overwrite_no_with : {text : List ℕ} {ts us vs : List Token} {name : Span} {left : ℕ} → us ≡ drop 1 ts → Takes F.Lower us vs name → front vs ≢ F.With → AreDeep (OperandBy text O.Overwrite ts) left
-overwrite_no_with {text} {ts} {us} {vs} {name} e t h = never (λ y d r q. inner q)
-  where
-    first : Takes F.Lower (drop 1 ts) vs name
-    first = subst (λ us. Takes F.Lower us vs name) e t
-
-    inner : {y : Expr} {d : ℕ} {r : List Token} → OperandBy text O.Overwrite ts y d r → ⊥
-    inner (an_overwrite p q x) = h (ap front (sym (same_takes first p).rest) ∙ q.stands)
 
 pub overwrite_deep : {text : List ℕ} {ts us vs ws : List Token} {name s : Span} {left below : ℕ} → us ≡ drop 1 ts → left ≤ below + 1 → Takes F.Lower us vs name → Takes F.With vs ws s → AreDeep (ConBy text (front ws) ws) below → AreDeep (OperandBy text O.Overwrite ts) left
 overwrite_deep {text} {ts} {us} {vs} {ws} {name} {s} e b t u h = deep_inside b (λ y d r q. inner q) h

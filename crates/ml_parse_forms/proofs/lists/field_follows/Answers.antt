@@ -1,4 +1,4 @@
-use Rattle.std.proofs.Common.{◌≡◌, ◌≢◌, drop, ap}
+use Rattle.std.proofs.Common.{◌≢◌, drop, ap}
 use Rattle.ml_cursor.specs.declared.front.Front.TheVariants as Front
 use Rattle.ml_cursor.specs.Fronts.{front}
 use Rattle.ml_parse_forms.proofs.ListLooks.{other_stands, no_field, behind_field, field_by, behind_field_semi}

@@ -1,4 +1,4 @@
-use Rattle.std.proofs.Common.{◌≡◌, ◌≢◌, drop, refl, sym, ap, ◌∙◌}
+use Rattle.std.proofs.Common.{◌≢◌, drop, refl, sym, ap, ◌∙◌}
 use Rattle.ml_cursor.specs.declared.front.Front.TheVariants as Front
 use Rattle.ml_cursor.specs.Fronts.{front}
 use Rattle.ml_grammar.specs.Looks.{joins_operands}
