@@ -1,0 +1,22 @@
+use Rattle.std.proofs.Common.{◌+◌, ◌<◌, ◌≤◌, arith}
+use Rattle.ml_parse_patterns.proofs.Relays.{relay}
+use Rattle.ml_grammar.proofs.OpenForms.{no_room, fun_deep, fun_deep_behind, fun_read}
+use Rattle.ml_parser.proofs.operand.read_fun.Goals as goal
+
+pub returns-in_err-head-clause-err : goal.returns-in_err-head-clause-err
+returns-in_err-head-clause-err c = relay _ _ _ no_room c.in_err-head.ensures.err c.from_residual.ensures.1
+
+pub returns-in_err-params-clause-err : goal.returns-in_err-params-clause-err
+returns-in_err-params-clause-err c =
+    let room : c.args.left ≤ c.in_ok-head.head.below + 1 = omega (arith, c.in_ok-head.ensures.below) in
+    relay _ _ _ (fun_deep c.in_ok-head.ensures.passed room) c.in_err-params.ensures.err c.from_residual-in_err-params.ensures.1
+
+pub returns-in_err-body-clause-err : goal.returns-in_err-body-clause-err
+returns-in_err-body-clause-err c =
+    let room : c.args.left ≤ c.in_ok-head.head.below + 1 = omega (arith, c.in_ok-head.ensures.below) in
+    relay _ _ _ (fun_deep_behind c.in_ok-head.ensures.passed room c.in_ok-params.ensures.ok.reads) c.in_err-body.ensures.err c.from_residual-in_err-body.ensures.1
+
+pub returns-clause-ok : goal.returns-clause-ok
+returns-clause-ok c =
+    let less : c.in_ok-head.head.below < c.args.left = omega (arith, c.in_ok-head.ensures.below) in
+    fun_read c.in_ok-head.ensures.passed c.in_ok-head.ensures.span less c.in_ok-params.ensures.ok c.in_ok-body.ensures.ok c.in_ok-fun.ensures.tree c.in_ok-fun.ensures.depth

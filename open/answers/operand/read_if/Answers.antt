@@ -1,0 +1,22 @@
+use Rattle.std.proofs.Common.{◌+◌, ◌<◌, ◌≤◌, arith}
+use Rattle.ml_parse_patterns.proofs.Relays.{relay}
+use Rattle.ml_grammar.proofs.OpenForms.{no_room, if_deep, if_deep_behind, if_read}
+use Rattle.ml_parser.proofs.operand.read_if.Goals as goal
+
+pub returns-in_err-head-clause-err : goal.returns-in_err-head-clause-err
+returns-in_err-head-clause-err c = relay _ _ _ no_room c.in_err-head.ensures.err c.from_residual.ensures.1
+
+pub returns-in_err-condition-clause-err : goal.returns-in_err-condition-clause-err
+returns-in_err-condition-clause-err c =
+    let room : c.args.left ≤ c.in_ok-head.head.below + 1 = omega (arith, c.in_ok-head.ensures.below) in
+    relay _ _ _ (if_deep c.in_ok-head.ensures.passed room) c.in_err-condition.ensures.err c.from_residual-in_err-condition.ensures.1
+
+pub returns-in_err-branches-clause-err : goal.returns-in_err-branches-clause-err
+returns-in_err-branches-clause-err c =
+    let room : c.args.left ≤ c.in_ok-head.head.below + 1 = omega (arith, c.in_ok-head.ensures.below) in
+    relay _ _ _ (if_deep_behind c.in_ok-head.ensures.passed room c.in_ok-condition.ensures.ok.reads) c.in_err-branches.ensures.err c.from_residual-in_err-branches.ensures.1
+
+pub returns-clause-ok : goal.returns-clause-ok
+returns-clause-ok c =
+    let less : c.in_ok-head.head.below < c.args.left = omega (arith, c.in_ok-head.ensures.below) in
+    if_read c.in_ok-head.ensures.passed c.in_ok-head.ensures.span less c.in_ok-condition.ensures.ok c.in_ok-branches.ensures.ok c.in_ok-choice.ensures.tree c.in_ok-choice.ensures.depth

@@ -1,0 +1,22 @@
+use Rattle.std.proofs.Common.{◌+◌, ◌<◌, ◌≤◌, arith}
+use Rattle.ml_parse_patterns.proofs.Relays.{relay}
+use Rattle.ml_grammar.proofs.OpenForms.{no_room, match_deep, match_deep_behind, match_read}
+use Rattle.ml_parser.proofs.operand.read_match.Goals as goal
+
+pub returns-in_err-head-clause-err : goal.returns-in_err-head-clause-err
+returns-in_err-head-clause-err c = relay _ _ _ no_room c.in_err-head.ensures.err c.from_residual.ensures.1
+
+pub returns-in_err-scrutinee-clause-err : goal.returns-in_err-scrutinee-clause-err
+returns-in_err-scrutinee-clause-err c =
+    let room : c.args.left ≤ c.in_ok-head.head.below + 1 = omega (arith, c.in_ok-head.ensures.below) in
+    relay _ _ _ (match_deep c.in_ok-head.ensures.passed room) c.in_err-scrutinee.ensures.err c.from_residual-in_err-scrutinee.ensures.1
+
+pub returns-in_err-arms-clause-err : goal.returns-in_err-arms-clause-err
+returns-in_err-arms-clause-err c =
+    let room : c.args.left ≤ c.in_ok-head.head.below + 1 = omega (arith, c.in_ok-head.ensures.below) in
+    relay _ _ _ (match_deep_behind c.in_ok-head.ensures.passed room c.in_ok-scrutinee.ensures.ok.reads) c.in_err-arms.ensures.err c.from_residual-in_err-arms.ensures.1
+
+pub returns-clause-ok : goal.returns-clause-ok
+returns-clause-ok c =
+    let less : c.in_ok-head.head.below < c.args.left = omega (arith, c.in_ok-head.ensures.below) in
+    match_read c.in_ok-head.ensures.passed c.in_ok-head.ensures.span less c.in_ok-scrutinee.ensures.ok c.in_ok-arms.ensures.ok c.in_ok-matching.ensures.tree c.in_ok-matching.ensures.depth

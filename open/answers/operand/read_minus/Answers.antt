@@ -1,0 +1,17 @@
+use Rattle.std.proofs.Common.{◌+◌, ◌<◌, ◌≤◌, arith}
+use Rattle.ml_parse_patterns.proofs.Relays.{relay}
+use Rattle.ml_grammar.proofs.OpenForms.{no_room, minus_deep, minus_read}
+use Rattle.ml_parser.proofs.operand.read_minus.Goals as goal
+
+pub returns-in_err-head-clause-err : goal.returns-in_err-head-clause-err
+returns-in_err-head-clause-err c = relay _ _ _ no_room c.in_err-head.ensures.err c.from_residual.ensures.1
+
+pub returns-in_err-operand-clause-err : goal.returns-in_err-operand-clause-err
+returns-in_err-operand-clause-err c =
+    let room : c.args.left ≤ c.in_ok-head.head.below + 1 = omega (arith, c.in_ok-head.ensures.below) in
+    relay _ _ _ (minus_deep c.in_ok-head.ensures.passed room) c.in_err-operand.ensures.err c.from_residual-in_err-operand.ensures.1
+
+pub returns-clause-ok : goal.returns-clause-ok
+returns-clause-ok c =
+    let less : c.in_ok-head.head.below < c.args.left = omega (arith, c.in_ok-head.ensures.below) in
+    minus_read c.in_ok-head.ensures.passed c.in_ok-head.ensures.span less c.in_ok-operand.ensures.ok c.in_ok-minus.ensures.tree c.in_ok-minus.ensures.depth
