@@ -8,13 +8,12 @@ ghost use Rattle.ml_cursor.specs.Says.{Says};
 ghost use Rattle.ml_grammar.specs.Trees.{node, start_of};
 ghost use Rattle.ml_grammar.specs.Readings.{ClosesParens, NotClosed};
 
-use crate::found::{Found, Head, deeper, expect, joined, node};
+use crate::found::{Found, FoundExpr, Head, deeper, expect, joined, node};
 use crate::target::read_whole_type;
 use ml_cursor::{Front, ParseErr, stands};
 use ml_lexer::Token;
 use ml_tree::{Expr, ExprKind, FieldExpr};
 use oxml_base::Items;
-use sqlite_items::Boxed;
 use std::alloc::Global;
 
 /// What was found, with the `.name` that stands behind it.
@@ -22,8 +21,8 @@ pub fn field_of(
     alloc: Global,
     tokens: &[Token],
     at: &mut usize,
-    found: Found<Expr>,
-) -> Result<Found<Expr>, ParseErr>
+    found: FoundExpr,
+) -> Result<FoundExpr, ParseErr>
     requires { found.depth < 2 ^ 32 - 1 }
     ensures tree { IfOk result (λ f. f.tree ≡ node (start_of found.tree) (first_span (drop 1 (drop at.old tokens.now))).end (ExprKind.Field found.tree (first_span (drop 1 (drop at.old tokens.now))))) }
     ensures depth { IfOk result (λ f. f.depth ≡ found.depth + 1) }
@@ -34,9 +33,9 @@ pub fn field_of(
 {
     expect(tokens, at, Front::Dot)?;
     let name = expect(tokens, at, Front::Lower)?;
-    let span = joined(found.tree.span, name);
-    let record = Boxed::new(alloc, found.tree)?;
-    Ok(node(span, ExprKind::Field(record, name), found.depth))
+    let span = joined(found.tree.get().span, name);
+    let kind = ExprKind::Field(found.tree, name);
+    Ok(node(alloc, span, kind, found.depth)?)
 }
 
 /// `e.[e]`, whose `]` stands at the place.
@@ -44,9 +43,9 @@ pub fn close_index(
     alloc: Global,
     tokens: &[Token],
     at: &mut usize,
-    text: Found<Expr>,
-    index: Found<Expr>,
-) -> Result<Found<Expr>, ParseErr>
+    text: FoundExpr,
+    index: FoundExpr,
+) -> Result<FoundExpr, ParseErr>
     requires text { text.depth < 2 ^ 32 - 1 }
     requires index { index.depth < 2 ^ 32 - 1 }
     ensures tree { IfOk result (λ f. f.tree ≡ node (start_of text.tree) (first_span (drop at.old tokens.now)).end (ExprKind.Index text.tree index.tree)) }
@@ -56,20 +55,20 @@ pub fn close_index(
     ensures err { IfErr result (Says tokens.now (front (drop at.old tokens.now) ≢ Front.CloseBracket)) }
 {
     let close = expect(tokens, at, Front::CloseBracket)?;
-    let span = joined(text.tree.span, close);
+    let span = joined(text.tree.get().span, close);
     let depth = deeper(text.depth, index.depth);
-    let text = Boxed::new(alloc, text.tree)?;
-    let index = Boxed::new(alloc, index.tree)?;
-    Ok(node(span, ExprKind::Index(text, index), depth))
+    let kind = ExprKind::Index(text.tree, index.tree);
+    Ok(node(alloc, span, kind, depth)?)
 }
 
 /// `[e; ..]`, whose `]` stands at the place.
 pub fn close_list(
+    alloc: Global,
     tokens: &[Token],
     at: &mut usize,
     head: Head,
     list: Found<Items<Expr>>,
-) -> Result<Found<Expr>, ParseErr>
+) -> Result<FoundExpr, ParseErr>
     requires { list.depth < 2 ^ 32 - 1 }
     ensures tree { IfOk result (λ f. f.tree ≡ node head.span.start (first_span (drop at.old tokens.now)).end (ExprKind.List list.tree)) }
     ensures depth { IfOk result (λ f. f.depth ≡ list.depth + 1) }
@@ -78,20 +77,18 @@ pub fn close_list(
     ensures err { IfErr result (Says tokens.now (front (drop at.old tokens.now) ≢ Front.CloseBracket)) }
 {
     let close = expect(tokens, at, Front::CloseBracket)?;
-    Ok(node(
-        joined(head.span, close),
-        ExprKind::List(list.tree),
-        list.depth,
-    ))
+    let kind = ExprKind::List(list.tree);
+    Ok(node(alloc, joined(head.span, close), kind, list.depth)?)
 }
 
 /// `{f = e; ..}`, whose `}` stands at the place.
 pub fn close_record(
+    alloc: Global,
     tokens: &[Token],
     at: &mut usize,
     head: Head,
     fields: Found<Items<FieldExpr>>,
-) -> Result<Found<Expr>, ParseErr>
+) -> Result<FoundExpr, ParseErr>
     requires { fields.depth < 2 ^ 32 - 1 }
     ensures tree { IfOk result (λ f. f.tree ≡ node head.span.start (first_span (drop at.old tokens.now)).end (ExprKind.Fields fields.tree)) }
     ensures depth { IfOk result (λ f. f.depth ≡ fields.depth + 1) }
@@ -100,11 +97,8 @@ pub fn close_record(
     ensures err { IfErr result (Says tokens.now (front (drop at.old tokens.now) ≢ Front.CloseBrace)) }
 {
     let close = expect(tokens, at, Front::CloseBrace)?;
-    Ok(node(
-        joined(head.span, close),
-        ExprKind::Fields(fields.tree),
-        fields.depth,
-    ))
+    let kind = ExprKind::Fields(fields.tree);
+    Ok(node(alloc, joined(head.span, close), kind, fields.depth)?)
 }
 
 /// `(e)` or `begin e end`, whose end stands at the place.
@@ -114,8 +108,8 @@ pub fn close_paren(
     at: &mut usize,
     close: Front,
     head: Head,
-    inner: Found<Expr>,
-) -> Result<Found<Expr>, ParseErr>
+    inner: FoundExpr,
+) -> Result<FoundExpr, ParseErr>
     requires { inner.depth < 2 ^ 32 - 1 }
     ensures tree { IfOk result (λ f. f.tree ≡ node head.span.start (first_span (drop at.old tokens.now)).end (ExprKind.Paren inner.tree)) }
     ensures depth { IfOk result (λ f. f.depth ≡ inner.depth + 1) }
@@ -124,8 +118,8 @@ pub fn close_paren(
     ensures err { IfErr result (Says tokens.now (front (drop at.old tokens.now) ≢ close)) }
 {
     let end = expect(tokens, at, close)?;
-    let kind = ExprKind::Paren(Boxed::new(alloc, inner.tree)?);
-    Ok(node(joined(head.span, end), kind, inner.depth))
+    let kind = ExprKind::Paren(inner.tree);
+    Ok(node(alloc, joined(head.span, end), kind, inner.depth)?)
 }
 
 /// `(e)` or `(e : t)`, behind whose expression the place is.
@@ -135,8 +129,8 @@ pub fn close_parens(
     tokens: &[Token],
     at: &mut usize,
     head: Head,
-    inner: Found<Expr>,
-) -> Result<Found<Expr>, ParseErr>
+    inner: FoundExpr,
+) -> Result<FoundExpr, ParseErr>
     requires { inner.depth < 2 ^ 32 - 1 }
     ensures depth { IfOk result (λ f. f.depth ≡ inner.depth + 1) }
     ensures closes { IfOk result (λ f. ClosesParens head.span.start inner.tree (drop at.old tokens.now) f.tree (drop at.new tokens.now)) }
@@ -148,6 +142,6 @@ pub fn close_parens(
     expect(tokens, at, Front::Colon)?;
     let ty = read_whole_type(alloc, tokens, at)?;
     let close = expect(tokens, at, Front::CloseParen)?;
-    let kind = ExprKind::Typed(Boxed::new(alloc, inner.tree)?, ty);
-    Ok(node(joined(head.span, close), kind, inner.depth))
+    let kind = ExprKind::Typed(inner.tree, ty);
+    Ok(node(alloc, joined(head.span, close), kind, inner.depth)?)
 }

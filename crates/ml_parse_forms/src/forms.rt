@@ -4,7 +4,7 @@ ghost use Rattle.ml_tree.specs.declared.expr.ExprKind.{ExprKind};
 ghost use Rattle.ml_cursor.specs.declared.error.ParseErr.{ParseErr};
 ghost use Rattle.ml_grammar.specs.Trees.{node, end_of, end_behind, end_of_arm, end_of_branches};
 
-use crate::found::{Found, Head, deeper, joined, node};
+use crate::found::{Found, FoundExpr, Head, deeper, joined, node};
 use ml_cursor::ParseErr;
 use ml_parse_patterns::FoundParams;
 use ml_tree::{Arm, Bind, Expr, ExprKind};
@@ -13,64 +13,22 @@ use sqlite_items::Boxed;
 use std::alloc::Global;
 
 /// Where the branches of an `if` end.
-fn end_of_branches(then: &Expr, other: &Option<Expr>) -> u32
+fn end_of_branches(then: &Boxed<Expr>, other: &Option<Boxed<Expr>>) -> u32
     ensures { result ≡ end_of_branches then.now other.now }
 {
     match other {
-        Some(other) => other.span.end,
-        None => then.span.end,
+        Some(other) => other.get().span.end,
+        None => then.get().span.end,
     }
-}
-
-/// What may be left out, in a box.
-fn boxed_option(alloc: Global, found: Option<Expr>) -> Result<Option<Boxed<Expr>>, ParseErr>
-    ensures ok { IfOk result (λ boxed. boxed ≡ found) }
-    ensures err { IfErr result (λ e. e ≡ ParseErr.NoMemory) }
-{
-    match found {
-        Some(found) => {
-            let boxed = Boxed::new(alloc, found)?;
-            Ok(Some(boxed))
-        }
-        None => Ok(None),
-    }
-}
-
-/// The branches of an `if`, in boxes.
-fn boxed_branches(
-    alloc: Global,
-    then: Expr,
-    other: Option<Expr>,
-) -> Result<(Boxed<Expr>, Option<Boxed<Expr>>), ParseErr>
-    ensures ok { IfOk result (λ boxed. boxed ≡ (then, other)) }
-    ensures err { IfErr result (λ e. e ≡ ParseErr.NoMemory) }
-{
-    let then = Boxed::new(alloc, then)?;
-    let other = boxed_option(alloc, other)?;
-    Ok((then, other))
-}
-
-/// What an `if` is, of its condition and its branches.
-fn if_kind(
-    alloc: Global,
-    condition: Expr,
-    then: Boxed<Expr>,
-    other: Option<Boxed<Expr>>,
-) -> Result<ExprKind, ParseErr>
-    ensures ok { IfOk result (λ kind. kind ≡ ExprKind.If condition then other) }
-    ensures err { IfErr result (λ e. e ≡ ParseErr.NoMemory) }
-{
-    let condition = Boxed::new(alloc, condition)?;
-    Ok(ExprKind::If(condition, then, other))
 }
 
 /// `if e then e [else e]`, the branches as a pair.
 pub fn choice(
     alloc: Global,
     head: Head,
-    condition: Found<Expr>,
-    branches: Found<(Expr, Option<Expr>)>,
-) -> Result<Found<Expr>, ParseErr>
+    condition: FoundExpr,
+    branches: Found<(Boxed<Expr>, Option<Boxed<Expr>>)>,
+) -> Result<FoundExpr, ParseErr>
     requires condition { condition.depth < 2 ^ 32 - 1 }
     requires branches { branches.depth < 2 ^ 32 - 1 }
     ensures tree { IfOk result (λ f. f.tree ≡ node head.span.start (end_of_branches branches.tree.0 branches.tree.1) (ExprKind.If condition.tree branches.tree.0 branches.tree.1)) }
@@ -81,9 +39,8 @@ pub fn choice(
     let (then, other) = branches.tree;
     let start = head.span.start;
     let end = end_of_branches(&then, &other);
-    let (then, other) = boxed_branches(alloc, then, other)?;
-    let kind = if_kind(alloc, condition.tree, then, other)?;
-    Ok(node(Span { start, end }, kind, depth))
+    let kind = ExprKind::If(condition.tree, then, other);
+    Ok(node(alloc, Span { start, end }, kind, depth)?)
 }
 
 /// `let [rec] binds in e`
@@ -92,22 +49,22 @@ pub fn let_in(
     head: Head,
     recursive: bool,
     binds: Found<Items<Bind>>,
-    body: Found<Expr>,
-) -> Result<Found<Expr>, ParseErr>
+    body: FoundExpr,
+) -> Result<FoundExpr, ParseErr>
     requires binds { binds.depth < 2 ^ 32 - 1 }
     requires body { body.depth < 2 ^ 32 - 1 }
     ensures tree { IfOk result (λ f. f.tree ≡ node head.span.start (end_of body.tree) (ExprKind.Let recursive binds.tree body.tree)) }
     ensures depth { IfOk result (λ f. f.depth ≡ max binds.depth body.depth + 1) }
     ensures err { IfErr result (λ e. e ≡ ParseErr.NoMemory) }
 {
-    let span = joined(head.span, body.tree.span);
+    let span = joined(head.span, body.tree.get().span);
     let depth = deeper(binds.depth, body.depth);
     let kind = ExprKind::Let {
         recursive,
         binds: binds.tree,
-        body: Boxed::new(alloc, body.tree)?,
+        body: body.tree,
     };
-    Ok(node(span, kind, depth))
+    Ok(node(alloc, span, kind, depth)?)
 }
 
 /// The two names of a borrow.
@@ -122,20 +79,20 @@ pub fn borrow(
     alloc: Global,
     head: Head,
     names: Borrowed,
-    body: Found<Expr>,
-) -> Result<Found<Expr>, ParseErr>
+    body: FoundExpr,
+) -> Result<FoundExpr, ParseErr>
     requires { body.depth < 2 ^ 32 - 1 }
     ensures tree { IfOk result (λ f. f.tree ≡ node head.span.start (end_of body.tree) (ExprKind.Borrow names.name names.of body.tree)) }
     ensures depth { IfOk result (λ f. f.depth ≡ body.depth + 1) }
     ensures err { IfErr result (λ e. e ≡ ParseErr.NoMemory) }
 {
-    let span = joined(head.span, body.tree.span);
+    let span = joined(head.span, body.tree.get().span);
     let kind = ExprKind::Borrow {
         name: names.name,
         of: names.of,
-        body: Boxed::new(alloc, body.tree)?,
+        body: body.tree,
     };
-    Ok(node(span, kind, body.depth))
+    Ok(node(alloc, span, kind, body.depth)?)
 }
 
 /// `fun params -> e`
@@ -143,18 +100,18 @@ pub fn fun(
     alloc: Global,
     head: Head,
     params: FoundParams,
-    body: Found<Expr>,
-) -> Result<Found<Expr>, ParseErr>
+    body: FoundExpr,
+) -> Result<FoundExpr, ParseErr>
     requires params { params.depth < 2 ^ 32 - 1 }
     requires body { body.depth < 2 ^ 32 - 1 }
     ensures tree { IfOk result (λ f. f.tree ≡ node head.span.start (end_of body.tree) (ExprKind.Fun params.list body.tree)) }
     ensures depth { IfOk result (λ f. f.depth ≡ max params.depth body.depth + 1) }
     ensures err { IfErr result (λ e. e ≡ ParseErr.NoMemory) }
 {
-    let span = joined(head.span, body.tree.span);
+    let span = joined(head.span, body.tree.get().span);
     let depth = deeper(params.depth, body.depth);
-    let kind = ExprKind::Fun(params.list, Boxed::new(alloc, body.tree)?);
-    Ok(node(span, kind, depth))
+    let kind = ExprKind::Fun(params.list, body.tree);
+    Ok(node(alloc, span, kind, depth)?)
 }
 
 /// Where the last arm ends.
@@ -172,9 +129,9 @@ fn end_of_last(arms: &[Arm]) -> u32
 pub fn matching(
     alloc: Global,
     head: Head,
-    scrutinee: Found<Expr>,
+    scrutinee: FoundExpr,
     arms: Found<Items<Arm>>,
-) -> Result<Found<Expr>, ParseErr>
+) -> Result<FoundExpr, ParseErr>
     requires scrutinee { scrutinee.depth < 2 ^ 32 - 1 }
     requires arms { arms.depth < 2 ^ 32 - 1 }
     ensures tree { IfOk result (λ f. f.tree ≡ node head.span.start (end_behind end_of_arm 0 arms.tree) (ExprKind.Match scrutinee.tree arms.tree)) }
@@ -184,25 +141,19 @@ pub fn matching(
     let start = head.span.start;
     let end = end_of_last(arms.tree.as_slice());
     let depth = deeper(scrutinee.depth, arms.depth);
-    let scrutinee = Boxed::new(alloc, scrutinee.tree)?;
-    Ok(node(
-        Span { start, end },
-        ExprKind::Match(scrutinee, arms.tree),
-        depth,
-    ))
+    let kind = ExprKind::Match(scrutinee.tree, arms.tree);
+    Ok(node(alloc, Span { start, end }, kind, depth)?)
 }
 
 /// `function arms`
-pub fn function(head: Head, arms: Found<Items<Arm>>) -> Found<Expr>
+pub fn function(alloc: Global, head: Head, arms: Found<Items<Arm>>) -> Result<FoundExpr, ParseErr>
     requires { arms.depth < 2 ^ 32 - 1 }
-    ensures tree { result.tree ≡ node head.span.start (end_behind end_of_arm 0 arms.tree) (ExprKind.Function arms.tree) }
-    ensures depth { result.depth ≡ arms.depth + 1 }
+    ensures tree { IfOk result (λ f. f.tree ≡ node head.span.start (end_behind end_of_arm 0 arms.tree) (ExprKind.Function arms.tree)) }
+    ensures depth { IfOk result (λ f. f.depth ≡ arms.depth + 1) }
+    ensures err { IfErr result (λ e. e ≡ ParseErr.NoMemory) }
 {
     let start = head.span.start;
     let end = end_of_last(arms.tree.as_slice());
-    node(
-        Span { start, end },
-        ExprKind::Function(arms.tree),
-        arms.depth,
-    )
+    let kind = ExprKind::Function(arms.tree);
+    Ok(node(alloc, Span { start, end }, kind, arms.depth)?)
 }

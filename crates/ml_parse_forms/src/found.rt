@@ -9,6 +9,7 @@ use ml_cursor::{Front, ParseErr, accept, pass, refusal_at, span_at, stands};
 use ml_lexer::Token;
 use ml_tree::{Expr, ExprKind};
 use oxml_base::{Items, Span};
+use sqlite_items::Boxed;
 use std::alloc::Global;
 
 /// A tree that was read, or a list of trees, and how deep it is: the greatest number of expressions
@@ -18,6 +19,10 @@ pub struct Found<T> {
     pub tree: T,
     pub depth: u32,
 }
+
+/// An expression that was read. It lies in a box: the readers call one another as deep as the tree
+/// is, and what each of them holds on the stack is then one address.
+pub type FoundExpr = Found<Boxed<Expr>>;
 
 /// From the start of one span to the end of another.
 pub fn joined(first: Span, last: Span) -> Span
@@ -37,19 +42,22 @@ pub fn deeper(one: u32, other: u32) -> u32
 }
 
 /// An expression over parts of this depth. Its number is given once the whole program is read.
-pub fn node(place: Span, kind: ExprKind, parts: u32) -> Found<Expr>
+pub fn node(alloc: Global, place: Span, kind: ExprKind, parts: u32) -> Result<FoundExpr, ParseErr>
     requires { parts < 2 ^ 32 - 1 }
-    ensures tree { result.tree ≡ node place.start place.end kind }
-    ensures depth { result.depth ≡ parts + 1 }
+    ensures tree { IfOk result (λ f. f.tree ≡ node place.start place.end kind) }
+    ensures depth { IfOk result (λ f. f.depth ≡ parts + 1) }
+    ensures err { IfErr result (λ e. e ≡ ParseErr.NoMemory) }
 {
-    Found {
-        tree: Expr {
-            id: 0,
-            span: place,
-            kind,
-        },
+    let expr = Expr {
+        id: 0,
+        span: place,
+        kind,
+    };
+    let tree = Boxed::new(alloc, expr)?;
+    Ok(Found {
+        tree,
         depth: parts + 1,
-    }
+    })
 }
 
 /// Goes past this token, which has to stand at the place, and gives its span.
@@ -157,6 +165,7 @@ pub fn no_parts<T>(alloc: Global) -> Found<Items<T>>
 }
 
 /// The list with one more at its end.
+#[inline(never)]
 pub fn with_part<T: Drop>(
     list: Found<Items<T>>,
     part: Found<T>,
@@ -171,6 +180,22 @@ pub fn with_part<T: Drop>(
         tree,
         depth: deeper(depth, part.depth),
     })
+}
+
+/// The list of expressions with one more at its end.
+pub fn with_expression(
+    list: Found<Items<Expr>>,
+    part: FoundExpr,
+) -> Result<Found<Items<Expr>>, ParseErr>
+    ensures tree { IfOk result (λ f. f.tree ≡ list.tree ++ part.tree ∷ []) }
+    ensures depth { IfOk result (λ f. f.depth ≡ max list.depth part.depth) }
+    ensures err { IfErr result (λ e. e ≡ ParseErr.NoMemory) }
+{
+    let expr = Found {
+        tree: part.tree.into_inner(),
+        depth: part.depth,
+    };
+    Ok(with_part(list, expr)?)
 }
 
 /// Two things that stand one behind the other.

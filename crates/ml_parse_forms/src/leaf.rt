@@ -7,12 +7,12 @@ ghost use Rattle.ml_grammar.specs.Trees.{width, constant, leaf_kind};
 ghost use Rattle.ml_grammar.specs.Grammar.{AtomBy};
 ghost use Rattle.ml_grammar.specs.Readings.{IsRead, AreDeep};
 
-use crate::found::{Found, joined, node, open_form};
+use crate::found::{FoundExpr, joined, node, open_form};
 use crate::source::Source;
 use ml_cursor::{ParseErr, char_at, int_at, pass, refusal_at, span_at};
 use ml_grammar::Leaf;
 use ml_lexer::{Token, TokenKind, text_bytes};
-use ml_tree::{ConName, Expr, ExprKind};
+use ml_tree::{ConName, ExprKind};
 use sqlite_items::at as token_at;
 use std::alloc::Global;
 
@@ -59,10 +59,11 @@ fn leaf_kind(leaf: Leaf, tokens: &[Token], at: usize, last: usize) -> ExprKind
 #[tactic(auto, using(ml_grammar::proofs::Atoms::leaf_read, ml_grammar::proofs::Atoms::no_room, ml_grammar::proofs::Handed::after_last))]
 pub fn read_leaf(
     leaf: Leaf,
+    alloc: Global,
     source: &Source,
     at: &mut usize,
     left: u32,
-) -> Result<Found<Expr>, ParseErr>
+) -> Result<FoundExpr, ParseErr>
     ensures ok { IfOk result (λ f. IsRead (AtomBy source.now.text.now (AtomLead.Leaf leaf) (drop at.old source.now.tokens.now)) left f.tree f.depth (drop at.new source.now.tokens.now)) }
     ensures err { IfErr result (Says source.now.tokens.now (AreDeep (AtomBy source.now.text.now (AtomLead.Leaf leaf) (drop at.old source.now.tokens.now)) left)) }
 {
@@ -74,7 +75,7 @@ pub fn read_leaf(
     let kind = leaf_kind(leaf, source.tokens, start, *at);
     let span = joined(span_at(source.tokens, start), span_at(source.tokens, *at));
     pass(source.tokens, at);
-    Ok(node(span, kind, 0))
+    Ok(node(alloc, span, kind, 0)?)
 }
 
 /// The text literal at this place.
@@ -84,7 +85,7 @@ pub fn read_text(
     source: &Source,
     at: &mut usize,
     left: u32,
-) -> Result<Found<Expr>, ParseErr>
+) -> Result<FoundExpr, ParseErr>
     requires texts { All (IsSound source.now.text.now) source.now.tokens.now }
     ensures ok { IfOk result (λ f. IsRead (AtomBy source.now.text.now AtomLead.Text (drop at.old source.now.tokens.now)) left f.tree f.depth (drop at.new source.now.tokens.now)) }
     ensures err { IfErr result (Says source.now.tokens.now (AreDeep (AtomBy source.now.text.now AtomLead.Text (drop at.old source.now.tokens.now)) left)) }
@@ -97,7 +98,7 @@ pub fn read_text(
     };
     let head = open_form(source.tokens, at, left)?;
     match text_bytes(alloc, source.text, *token) {
-        Ok(literal) => Ok(node(head.span, ExprKind::Text(literal), 0)),
+        Ok(literal) => Ok(node(alloc, head.span, ExprKind::Text(literal), 0)?),
         Err(_) => Err(ParseErr::NoMemory),
     }
 }

@@ -28,7 +28,6 @@ use oxml_base::{Items, Span};
 use std::alloc::Global;
 
 /// A pattern.
-#[tactic(auto, using(ml_grammar::proofs::Handed::pattern_read, ml_grammar::proofs::Handed::pattern_says))]
 pub fn read_whole_pattern(
     alloc: Global,
     source: &Source,
@@ -39,14 +38,10 @@ pub fn read_whole_pattern(
     ensures ok { IfOk result (λ pat. IsRead (ReadsPattern source.now.text.now (drop at.old source.now.tokens.now)) left pat.pat pat.depth (drop at.new source.now.tokens.now)) }
     ensures err { IfErr result (Says source.now.tokens.now (AreDeep (ReadsPattern source.now.text.now (drop at.old source.now.tokens.now)) left)) }
 {
-    match read_pattern(alloc, source.text, source.tokens, at, left) {
-        Ok(pat) => Ok(pat),
-        Err(error) => Err(error),
-    }
+    read_pattern(alloc, source.text, source.tokens, at, left)
 }
 
 /// `param+`
-#[tactic(auto, using(ml_grammar::proofs::Handed::params_read, ml_grammar::proofs::Handed::params_says))]
 pub fn read_all_params(
     alloc: Global,
     source: &Source,
@@ -57,10 +52,7 @@ pub fn read_all_params(
     ensures ok { IfOk result (λ params. IsRead (ReadsParams source.now.text.now (drop at.old source.now.tokens.now)) left params.list params.depth (drop at.new source.now.tokens.now)) }
     ensures err { IfErr result (Says source.now.tokens.now (AreDeep (ReadsParams source.now.text.now (drop at.old source.now.tokens.now)) left)) }
 {
-    match read_params(alloc, source.text, source.tokens, at, left) {
-        Ok(params) => Ok(params),
-        Err(error) => Err(error),
-    }
+    read_params(alloc, source.text, source.tokens, at, left)
 }
 
 /// A name as a pattern without words.
@@ -137,10 +129,7 @@ pub fn read_whole_type(alloc: Global, tokens: &[Token], at: &mut usize) -> Resul
     ensures ok { IfOk result (λ ty. HasType (drop at.old tokens.now) ty (drop at.new tokens.now)) }
     ensures err { IfErr result (Says tokens.now (IsNone (ReadsType Row.Factors) (drop at.old tokens.now))) }
 {
-    match read_type(alloc, tokens, at, Row::Factors) {
-        Ok(ty) => Ok(ty),
-        Err(error) => Err(error),
-    }
+    read_type(alloc, tokens, at, Row::Factors)
 }
 
 /// `[: type] =`

@@ -16,6 +16,7 @@ use ml_parse_forms::source::Source;
 use ml_parse_forms::target::read_whole_pattern;
 use ml_tree::{Arm, Expr};
 use oxml_base::Items;
+use sqlite_items::Boxed;
 use std::alloc::Global;
 
 /// `[|] arm (| arm)*`
@@ -68,7 +69,7 @@ fn read_action(
     source: &Source,
     at: &mut usize,
     left: u32,
-) -> Result<Found<(Option<Expr>, Expr)>, ParseErr>
+) -> Result<Found<(Option<Boxed<Expr>>, Boxed<Expr>)>, ParseErr>
     requires texts { All (IsSound source.now.text.now) source.now.tokens.now }
     ensures ok { IfOk result (λ f. IsRead (Actions source.now.text.now (drop at.old source.now.tokens.now)) left f.tree f.depth (drop at.new source.now.tokens.now)) }
     ensures err { IfErr result (Says source.now.tokens.now (AreDeep (Actions source.now.text.now (drop at.old source.now.tokens.now)) left)) }
@@ -86,7 +87,7 @@ fn read_guard(
     source: &Source,
     at: &mut usize,
     left: u32,
-) -> Result<Found<Option<Expr>>, ParseErr>
+) -> Result<Found<Option<Boxed<Expr>>>, ParseErr>
     requires texts { All (IsSound source.now.text.now) source.now.tokens.now }
     ensures ok { IfOk result (λ f. IsRead (GuardBy source.now.text.now (front (drop at.old source.now.tokens.now)) (drop at.old source.now.tokens.now)) left f.tree f.depth (drop at.new source.now.tokens.now)) }
     ensures err { IfErr result (Says source.now.tokens.now (AreDeep (GuardBy source.now.text.now (front (drop at.old source.now.tokens.now)) (drop at.old source.now.tokens.now)) left)) }

@@ -13,10 +13,9 @@ use ml_cursor::{Front, ParseErr, refusal_at};
 use ml_grammar::{AtomLead, ListKind};
 use ml_parse_forms::begins::atom_at;
 use ml_parse_forms::brackets::{close_list, close_paren, close_parens, close_record};
-use ml_parse_forms::found::{Found, open_form};
+use ml_parse_forms::found::{FoundExpr, open_form};
 use ml_parse_forms::leaf::{read_leaf, read_text};
 use ml_parse_forms::source::Source;
-use ml_tree::Expr;
 use std::alloc::Global;
 
 /// An expression in brackets of some kind, or a leaf.
@@ -27,7 +26,7 @@ pub fn read_atom(
     source: &Source,
     at: &mut usize,
     left: u32,
-) -> Result<Found<Expr>, ParseErr>
+) -> Result<FoundExpr, ParseErr>
     requires texts { All (IsSound source.now.text.now) source.now.tokens.now }
     ensures ok { IfOk result (λ f. IsRead (Reads source.now.text.now atom (drop at.old source.now.tokens.now)) left f.tree f.depth (drop at.new source.now.tokens.now)) }
     ensures err { IfErr result (Says source.now.tokens.now (AreDeep (Reads source.now.text.now atom (drop at.old source.now.tokens.now)) left)) }
@@ -37,7 +36,7 @@ pub fn read_atom(
         AtomLead::Begin => read_begin(alloc, source, at, left),
         AtomLead::List => read_elements(alloc, source, at, left),
         AtomLead::Record => read_record(alloc, source, at, left),
-        AtomLead::Leaf(leaf) => read_leaf(leaf, source, at, left),
+        AtomLead::Leaf(leaf) => read_leaf(leaf, alloc, source, at, left),
         AtomLead::Text => read_text(alloc, source, at, left),
         AtomLead::Nothing => Err(ParseErr::Refused(refusal_at(source.tokens, *at))),
     }
@@ -51,7 +50,7 @@ fn read_paren(
     source: &Source,
     at: &mut usize,
     left: u32,
-) -> Result<Found<Expr>, ParseErr>
+) -> Result<FoundExpr, ParseErr>
     requires texts { All (IsSound source.now.text.now) source.now.tokens.now }
     ensures ok { IfOk result (λ f. IsRead (AtomBy source.now.text.now AtomLead.Paren (drop at.old source.now.tokens.now)) left f.tree f.depth (drop at.new source.now.tokens.now)) }
     ensures err { IfErr result (Says source.now.tokens.now (AreDeep (AtomBy source.now.text.now AtomLead.Paren (drop at.old source.now.tokens.now)) left)) }
@@ -69,7 +68,7 @@ fn read_begin(
     source: &Source,
     at: &mut usize,
     left: u32,
-) -> Result<Found<Expr>, ParseErr>
+) -> Result<FoundExpr, ParseErr>
     requires texts { All (IsSound source.now.text.now) source.now.tokens.now }
     ensures ok { IfOk result (λ f. IsRead (AtomBy source.now.text.now AtomLead.Begin (drop at.old source.now.tokens.now)) left f.tree f.depth (drop at.new source.now.tokens.now)) }
     ensures err { IfErr result (Says source.now.tokens.now (AreDeep (AtomBy source.now.text.now AtomLead.Begin (drop at.old source.now.tokens.now)) left)) }
@@ -87,14 +86,14 @@ fn read_elements(
     source: &Source,
     at: &mut usize,
     left: u32,
-) -> Result<Found<Expr>, ParseErr>
+) -> Result<FoundExpr, ParseErr>
     requires texts { All (IsSound source.now.text.now) source.now.tokens.now }
     ensures ok { IfOk result (λ f. IsRead (AtomBy source.now.text.now AtomLead.List (drop at.old source.now.tokens.now)) left f.tree f.depth (drop at.new source.now.tokens.now)) }
     ensures err { IfErr result (Says source.now.tokens.now (AreDeep (AtomBy source.now.text.now AtomLead.List (drop at.old source.now.tokens.now)) left)) }
 {
     let head = open_form(source.tokens, at, left)?;
     let list = read_list(ListKind::Elements, alloc, source, at, head.below)?;
-    Ok(close_list(source.tokens, at, head, list)?)
+    Ok(close_list(alloc, source.tokens, at, head, list)?)
 }
 
 /// `{field (; field)* [;]}`
@@ -105,12 +104,12 @@ fn read_record(
     source: &Source,
     at: &mut usize,
     left: u32,
-) -> Result<Found<Expr>, ParseErr>
+) -> Result<FoundExpr, ParseErr>
     requires texts { All (IsSound source.now.text.now) source.now.tokens.now }
     ensures ok { IfOk result (λ f. IsRead (AtomBy source.now.text.now AtomLead.Record (drop at.old source.now.tokens.now)) left f.tree f.depth (drop at.new source.now.tokens.now)) }
     ensures err { IfErr result (Says source.now.tokens.now (AreDeep (AtomBy source.now.text.now AtomLead.Record (drop at.old source.now.tokens.now)) left)) }
 {
     let head = open_form(source.tokens, at, left)?;
     let fields = read_fields(alloc, source, at, head.below)?;
-    Ok(close_record(source.tokens, at, head, fields)?)
+    Ok(close_record(alloc, source.tokens, at, head, fields)?)
 }

@@ -14,6 +14,7 @@ use ml_parse_forms::source::Source;
 use ml_parse_forms::target::{read_result, read_target};
 use ml_tree::{Bind, Expr, TyExpr};
 use oxml_base::Items;
+use sqlite_items::Boxed;
 use std::alloc::Global;
 
 /// `bind (and bind)*`
@@ -65,7 +66,7 @@ fn read_value(
     source: &Source,
     at: &mut usize,
     left: u32,
-) -> Result<Found<(Option<TyExpr>, Expr)>, ParseErr>
+) -> Result<Found<(Option<TyExpr>, Boxed<Expr>)>, ParseErr>
     requires texts { All (IsSound source.now.text.now) source.now.tokens.now }
     ensures ok { IfOk result (λ f. IsRead (Values source.now.text.now (drop at.old source.now.tokens.now)) left f.tree f.depth (drop at.new source.now.tokens.now)) }
     ensures err { IfErr result (Says source.now.tokens.now (AreDeep (Values source.now.text.now (drop at.old source.now.tokens.now)) left)) }

@@ -11,12 +11,11 @@ use crate::operand::read_operand;
 use crate::simple::read_simple;
 use ml_cursor::{Front, ParseErr, pass};
 use ml_grammar::{Joint, ListKind};
-use ml_parse_forms::found::{Found, as_part, closed_by, expect};
+use ml_parse_forms::found::{FoundExpr, as_part, closed_by, expect};
 use ml_parse_forms::lists::goes_on;
 use ml_parse_forms::make::{gathered, infix};
 use ml_parse_forms::operators::{LAST_LEVEL, groups_left, operator_at};
 use ml_parse_forms::source::Source;
-use ml_tree::Expr;
 use std::alloc::Global;
 
 /// A part of a list of this kind.
@@ -28,7 +27,7 @@ pub fn read_part(
     source: &Source,
     at: &mut usize,
     left: u32,
-) -> Result<Found<Expr>, ParseErr>
+) -> Result<FoundExpr, ParseErr>
     requires texts { All (IsSound source.now.text.now) source.now.tokens.now }
     ensures ok { IfOk result (λ f. IsRead (Reads source.now.text.now (part_of kind) (drop at.old source.now.tokens.now)) left f.tree f.depth (drop at.new source.now.tokens.now)) }
     ensures err { IfErr result (Says source.now.tokens.now (AreDeep (Reads source.now.text.now (part_of kind) (drop at.old source.now.tokens.now)) left)) }
@@ -51,7 +50,7 @@ pub fn read_parts(
     source: &Source,
     at: &mut usize,
     left: u32,
-) -> Result<Found<Expr>, ParseErr>
+) -> Result<FoundExpr, ParseErr>
     requires texts { All (IsSound source.now.text.now) source.now.tokens.now }
     ensures ok { IfOk result (λ f. IsRead (Reads source.now.text.now (listed kind) (drop at.old source.now.tokens.now)) left f.tree f.depth (drop at.new source.now.tokens.now)) }
     ensures err { IfErr result (Says source.now.tokens.now (AreDeep (Reads source.now.text.now (listed kind) (drop at.old source.now.tokens.now)) left)) }
@@ -74,7 +73,7 @@ pub fn read_operators(
     source: &Source,
     at: &mut usize,
     left: u32,
-) -> Result<Found<Expr>, ParseErr>
+) -> Result<FoundExpr, ParseErr>
     requires level { level ≤ 8 }
     requires texts { All (IsSound source.now.text.now) source.now.tokens.now }
     ensures ok { IfOk result (λ f. IsRead (Reads source.now.text.now (operators level) (drop at.old source.now.tokens.now)) left f.tree f.depth (drop at.new source.now.tokens.now)) }
@@ -95,9 +94,9 @@ pub fn read_level(
     alloc: Global,
     source: &Source,
     at: &mut usize,
-    first: Found<Expr>,
+    first: FoundExpr,
     left: u32,
-) -> Result<Found<Expr>, ParseErr>
+) -> Result<FoundExpr, ParseErr>
     requires level { lower < 8 }
     requires small { first.depth ≤ left }
     requires texts { All (IsSound source.now.text.now) source.now.tokens.now }
@@ -121,9 +120,9 @@ fn read_to_left(
     alloc: Global,
     source: &Source,
     at: &mut usize,
-    first: Found<Expr>,
+    first: FoundExpr,
     left: u32,
-) -> Result<Found<Expr>, ParseErr>
+) -> Result<FoundExpr, ParseErr>
     requires level { lower < 8 }
     requires small { first.depth ≤ left }
     requires texts { All (IsSound source.now.text.now) source.now.tokens.now }
@@ -147,9 +146,9 @@ fn read_second(
     alloc: Global,
     source: &Source,
     at: &mut usize,
-    first: Found<Expr>,
+    first: FoundExpr,
     left: u32,
-) -> Result<Found<Expr>, ParseErr>
+) -> Result<FoundExpr, ParseErr>
     requires level { level ≤ 8 }
     requires small { first.depth ≤ left }
     requires texts { All (IsSound source.now.text.now) source.now.tokens.now }
@@ -171,7 +170,7 @@ pub fn read_until(
     source: &Source,
     at: &mut usize,
     left: u32,
-) -> Result<Found<Expr>, ParseErr>
+) -> Result<FoundExpr, ParseErr>
     requires texts { All (IsSound source.now.text.now) source.now.tokens.now }
     ensures ok { IfOk result (λ f. IsRead (Until source.now.text.now end (drop at.old source.now.tokens.now)) left f.tree f.depth (drop at.new source.now.tokens.now)) }
     ensures err { IfErr result (Says source.now.tokens.now (AreDeep (Until source.now.text.now end (drop at.old source.now.tokens.now)) left)) }
@@ -189,7 +188,7 @@ pub fn read_behind(
     source: &Source,
     at: &mut usize,
     left: u32,
-) -> Result<Found<Expr>, ParseErr>
+) -> Result<FoundExpr, ParseErr>
     requires texts { All (IsSound source.now.text.now) source.now.tokens.now }
     ensures ok { IfOk result (λ f. IsRead (Behind source.now.text.now start (drop at.old source.now.tokens.now)) left f.tree f.depth (drop at.new source.now.tokens.now)) }
     ensures err { IfErr result (Says source.now.tokens.now (AreDeep (Behind source.now.text.now start (drop at.old source.now.tokens.now)) left)) }

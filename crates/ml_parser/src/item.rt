@@ -2,9 +2,6 @@
 ghost use Rattle.std.specs.Prelude.{◌≡◌, drop, All, IfOk, IfErr};
 ghost use Rattle.ml_lexer.specs.Tokens.{IsSound};
 ghost use Rattle.ml_cursor.specs.Says.{Says};
-ghost use Rattle.ml_parse_types.specs.Types.{got};
-ghost use Rattle.ml_parse_types.specs.Decls.{ReadsDecls};
-ghost use Rattle.ml_parse_types.specs.Readers.{IsNone};
 ghost use Rattle.ml_numbers.specs.Numbered.{numbered};
 ghost use Rattle.ml_grammar.specs.declared.looks.ItemLead.{ItemLead};
 ghost use Rattle.ml_grammar.specs.Looks.{item_by, item_lead};
@@ -18,7 +15,7 @@ use ml_grammar::ItemLead;
 use ml_lexer::Token;
 use ml_parse_forms::source::Source;
 use ml_parse_types::read_decls;
-use ml_tree::{Bind, Decl, Item, ItemKind};
+use ml_tree::{Bind, Item, ItemKind};
 use oxml_base::{Items, Span};
 use std::alloc::Global;
 
@@ -61,17 +58,6 @@ fn read_let_item(alloc: Global, source: &Source, at: &mut usize) -> Result<Item,
     Ok(item(Span { start, end }, kind))
 }
 
-/// `decl (and decl)*`
-fn read_all_decls(alloc: Global, tokens: &[Token], at: &mut usize) -> Result<Items<Decl>, ParseErr>
-    ensures ok { IfOk result (λ decls. ReadsDecls (drop at.old tokens.now) (got decls (drop at.new tokens.now))) }
-    ensures err { IfErr result (Says tokens.now (IsNone ReadsDecls (drop at.old tokens.now))) }
-{
-    match read_decls(alloc, tokens, at) {
-        Ok(decls) => Ok(decls),
-        Err(error) => Err(error),
-    }
-}
-
 /// `type decl (and decl)*`
 fn read_types_item(alloc: Global, source: &Source, at: &mut usize) -> Result<Item, ParseErr>
     ensures ok { IfOk result (IsItem source.now.text.now ItemLead.Types (drop at.old source.now.tokens.now) (drop at.new source.now.tokens.now)) }
@@ -79,7 +65,7 @@ fn read_types_item(alloc: Global, source: &Source, at: &mut usize) -> Result<Ite
 {
     let start = *at;
     pass(source.tokens, at);
-    let decls = read_all_decls(alloc, source.tokens, at)?;
+    let decls = read_decls(alloc, source.tokens, at)?;
     Ok(item(extent(source.tokens, start, *at), ItemKind::Types(decls)))
 }
 

@@ -10,7 +10,7 @@ ghost use Rattle.ml_grammar.specs.Readings.{IsRead, AreDeep};
 use crate::expression::read_part;
 use ml_cursor::ParseErr;
 use ml_grammar::ListKind;
-use ml_parse_forms::found::{Found, no_parts, with_part};
+use ml_parse_forms::found::{Found, no_parts, with_expression};
 use ml_parse_forms::lists::goes_on;
 use ml_parse_forms::source::Source;
 use ml_tree::Expr;
@@ -34,7 +34,7 @@ pub fn read_list(
     let mut list = no_parts(alloc);
     'parts: loop {
         let part = read_part(kind, alloc, source, at, left)?;
-        list = with_part(list, part)?;
+        list = with_expression(list, part)?;
         if !goes_on(kind, source, at) {
             return Ok(list);
         }

@@ -16,11 +16,12 @@ use ml_cursor::{Front, ParseErr, accept};
 use ml_grammar::{Lead, ListKind};
 use ml_parse_forms::begins::lead_at;
 use ml_parse_forms::forms::{borrow, choice, fun, function, let_in, matching};
-use ml_parse_forms::found::{Found, just, nothing, open_form, pair};
+use ml_parse_forms::found::{Found, FoundExpr, just, nothing, open_form, pair};
 use ml_parse_forms::make::{exclave, minus, worded};
 use ml_parse_forms::source::Source;
 use ml_parse_forms::target::{read_all_params, read_borrowed};
 use ml_tree::{Expr, Words};
+use sqlite_items::Boxed;
 use std::alloc::Global;
 
 /// An operand of an operator: an open form, a prefix with its operand, or an application. An open
@@ -32,7 +33,7 @@ pub fn read_operand(
     source: &Source,
     at: &mut usize,
     left: u32,
-) -> Result<Found<Expr>, ParseErr>
+) -> Result<FoundExpr, ParseErr>
     requires texts { All (IsSound source.now.text.now) source.now.tokens.now }
     ensures ok { IfOk result (λ f. IsRead (Reads source.now.text.now (operators 0) (drop at.old source.now.tokens.now)) left f.tree f.depth (drop at.new source.now.tokens.now)) }
     ensures err { IfErr result (Says source.now.tokens.now (AreDeep (Reads source.now.text.now (operators 0) (drop at.old source.now.tokens.now)) left)) }
@@ -61,7 +62,7 @@ fn read_let(
     source: &Source,
     at: &mut usize,
     left: u32,
-) -> Result<Found<Expr>, ParseErr>
+) -> Result<FoundExpr, ParseErr>
     requires texts { All (IsSound source.now.text.now) source.now.tokens.now }
     ensures ok { IfOk result (λ f. IsRead (OperandBy source.now.text.now Lead.Let (drop at.old source.now.tokens.now)) left f.tree f.depth (drop at.new source.now.tokens.now)) }
     ensures err { IfErr result (Says source.now.tokens.now (AreDeep (OperandBy source.now.text.now Lead.Let (drop at.old source.now.tokens.now)) left)) }
@@ -81,7 +82,7 @@ fn read_borrow(
     source: &Source,
     at: &mut usize,
     left: u32,
-) -> Result<Found<Expr>, ParseErr>
+) -> Result<FoundExpr, ParseErr>
     requires texts { All (IsSound source.now.text.now) source.now.tokens.now }
     ensures ok { IfOk result (λ f. IsRead (OperandBy source.now.text.now Lead.Borrow (drop at.old source.now.tokens.now)) left f.tree f.depth (drop at.new source.now.tokens.now)) }
     ensures err { IfErr result (Says source.now.tokens.now (AreDeep (OperandBy source.now.text.now Lead.Borrow (drop at.old source.now.tokens.now)) left)) }
@@ -100,7 +101,7 @@ fn read_match(
     source: &Source,
     at: &mut usize,
     left: u32,
-) -> Result<Found<Expr>, ParseErr>
+) -> Result<FoundExpr, ParseErr>
     requires texts { All (IsSound source.now.text.now) source.now.tokens.now }
     ensures ok { IfOk result (λ f. IsRead (OperandBy source.now.text.now Lead.Match (drop at.old source.now.tokens.now)) left f.tree f.depth (drop at.new source.now.tokens.now)) }
     ensures err { IfErr result (Says source.now.tokens.now (AreDeep (OperandBy source.now.text.now Lead.Match (drop at.old source.now.tokens.now)) left)) }
@@ -119,14 +120,14 @@ fn read_function(
     source: &Source,
     at: &mut usize,
     left: u32,
-) -> Result<Found<Expr>, ParseErr>
+) -> Result<FoundExpr, ParseErr>
     requires texts { All (IsSound source.now.text.now) source.now.tokens.now }
     ensures ok { IfOk result (λ f. IsRead (OperandBy source.now.text.now Lead.Function (drop at.old source.now.tokens.now)) left f.tree f.depth (drop at.new source.now.tokens.now)) }
     ensures err { IfErr result (Says source.now.tokens.now (AreDeep (OperandBy source.now.text.now Lead.Function (drop at.old source.now.tokens.now)) left)) }
 {
     let head = open_form(source.tokens, at, left)?;
     let arms = read_arms(alloc, source, at, head.below)?;
-    Ok(function(head, arms))
+    Ok(function(alloc, head, arms)?)
 }
 
 /// `fun param+ -> seq`
@@ -137,7 +138,7 @@ fn read_fun(
     source: &Source,
     at: &mut usize,
     left: u32,
-) -> Result<Found<Expr>, ParseErr>
+) -> Result<FoundExpr, ParseErr>
     requires texts { All (IsSound source.now.text.now) source.now.tokens.now }
     ensures ok { IfOk result (λ f. IsRead (OperandBy source.now.text.now Lead.Fun (drop at.old source.now.tokens.now)) left f.tree f.depth (drop at.new source.now.tokens.now)) }
     ensures err { IfErr result (Says source.now.tokens.now (AreDeep (OperandBy source.now.text.now Lead.Fun (drop at.old source.now.tokens.now)) left)) }
@@ -151,12 +152,7 @@ fn read_fun(
 /// `if seq then expr [else expr]`
 #[cycle(expressions)]
 #[inline(never)]
-fn read_if(
-    alloc: Global,
-    source: &Source,
-    at: &mut usize,
-    left: u32,
-) -> Result<Found<Expr>, ParseErr>
+fn read_if(alloc: Global, source: &Source, at: &mut usize, left: u32) -> Result<FoundExpr, ParseErr>
     requires texts { All (IsSound source.now.text.now) source.now.tokens.now }
     ensures ok { IfOk result (λ f. IsRead (OperandBy source.now.text.now Lead.If (drop at.old source.now.tokens.now)) left f.tree f.depth (drop at.new source.now.tokens.now)) }
     ensures err { IfErr result (Says source.now.tokens.now (AreDeep (OperandBy source.now.text.now Lead.If (drop at.old source.now.tokens.now)) left)) }
@@ -175,7 +171,7 @@ fn read_branches(
     source: &Source,
     at: &mut usize,
     left: u32,
-) -> Result<Found<(Expr, Option<Expr>)>, ParseErr>
+) -> Result<Found<(Boxed<Expr>, Option<Boxed<Expr>>)>, ParseErr>
     requires texts { All (IsSound source.now.text.now) source.now.tokens.now }
     ensures ok { IfOk result (λ f. IsRead (Branches source.now.text.now (drop at.old source.now.tokens.now)) left f.tree f.depth (drop at.new source.now.tokens.now)) }
     ensures err { IfErr result (Says source.now.tokens.now (AreDeep (Branches source.now.text.now (drop at.old source.now.tokens.now)) left)) }
@@ -193,7 +189,7 @@ fn read_else(
     source: &Source,
     at: &mut usize,
     left: u32,
-) -> Result<Found<Option<Expr>>, ParseErr>
+) -> Result<Found<Option<Boxed<Expr>>>, ParseErr>
     requires texts { All (IsSound source.now.text.now) source.now.tokens.now }
     ensures ok { IfOk result (λ f. IsRead (ElseBy source.now.text.now (is_else (front (drop at.old source.now.tokens.now))) (drop at.old source.now.tokens.now)) left f.tree f.depth (drop at.new source.now.tokens.now)) }
     ensures err { IfErr result (Says source.now.tokens.now (AreDeep (ElseBy source.now.text.now (is_else (front (drop at.old source.now.tokens.now))) (drop at.old source.now.tokens.now)) left)) }
@@ -212,7 +208,7 @@ fn read_exclave(
     source: &Source,
     at: &mut usize,
     left: u32,
-) -> Result<Found<Expr>, ParseErr>
+) -> Result<FoundExpr, ParseErr>
     requires texts { All (IsSound source.now.text.now) source.now.tokens.now }
     ensures ok { IfOk result (λ f. IsRead (OperandBy source.now.text.now Lead.Exclave (drop at.old source.now.tokens.now)) left f.tree f.depth (drop at.new source.now.tokens.now)) }
     ensures err { IfErr result (Says source.now.tokens.now (AreDeep (OperandBy source.now.text.now Lead.Exclave (drop at.old source.now.tokens.now)) left)) }
@@ -230,14 +226,14 @@ fn read_minus(
     source: &Source,
     at: &mut usize,
     left: u32,
-) -> Result<Found<Expr>, ParseErr>
+) -> Result<FoundExpr, ParseErr>
     requires texts { All (IsSound source.now.text.now) source.now.tokens.now }
     ensures ok { IfOk result (λ f. IsRead (OperandBy source.now.text.now Lead.Minus (drop at.old source.now.tokens.now)) left f.tree f.depth (drop at.new source.now.tokens.now)) }
     ensures err { IfErr result (Says source.now.tokens.now (AreDeep (OperandBy source.now.text.now Lead.Minus (drop at.old source.now.tokens.now)) left)) }
 {
     let head = open_form(source.tokens, at, left)?;
-    let operand = read_operand(alloc, source, at, head.below)?;
-    Ok(minus(alloc, head, operand)?)
+    let negated = read_operand(alloc, source, at, head.below)?;
+    Ok(minus(alloc, head, negated)?)
 }
 
 /// A word that states a mode, and its operand.
@@ -249,7 +245,7 @@ fn read_worded(
     source: &Source,
     at: &mut usize,
     left: u32,
-) -> Result<Found<Expr>, ParseErr>
+) -> Result<FoundExpr, ParseErr>
     requires texts { All (IsSound source.now.text.now) source.now.tokens.now }
     ensures ok { IfOk result (λ f. IsRead (OperandBy source.now.text.now (Lead.Word words) (drop at.old source.now.tokens.now)) left f.tree f.depth (drop at.new source.now.tokens.now)) }
     ensures err { IfErr result (Says source.now.tokens.now (AreDeep (OperandBy source.now.text.now (Lead.Word words) (drop at.old source.now.tokens.now)) left)) }

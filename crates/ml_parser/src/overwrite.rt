@@ -12,12 +12,11 @@ use crate::expression::{read_level, read_operators};
 use crate::simple::read_simple;
 use ml_cursor::{Front, ParseErr, front_at, refusal_at};
 use ml_parse_forms::brackets::close_paren;
-use ml_parse_forms::found::{Found, before, open_form};
+use ml_parse_forms::found::{FoundExpr, before, open_form};
 use ml_parse_forms::make::{constructor, overwrite};
 use ml_parse_forms::operators::CONS_LEVEL;
 use ml_parse_forms::source::Source;
 use ml_parse_forms::target::read_overwritten;
-use ml_tree::Expr;
 use std::alloc::Global;
 
 /// `overwrite_ name with con`
@@ -28,7 +27,7 @@ pub fn read_overwrite(
     source: &Source,
     at: &mut usize,
     left: u32,
-) -> Result<Found<Expr>, ParseErr>
+) -> Result<FoundExpr, ParseErr>
     requires texts { All (IsSound source.now.text.now) source.now.tokens.now }
     ensures ok { IfOk result (λ f. IsRead (OperandBy source.now.text.now Lead.Overwrite (drop at.old source.now.tokens.now)) left f.tree f.depth (drop at.new source.now.tokens.now)) }
     ensures err { IfErr result (Says source.now.tokens.now (AreDeep (OperandBy source.now.text.now Lead.Overwrite (drop at.old source.now.tokens.now)) left)) }
@@ -47,7 +46,7 @@ fn read_con(
     source: &Source,
     at: &mut usize,
     left: u32,
-) -> Result<Found<Expr>, ParseErr>
+) -> Result<FoundExpr, ParseErr>
     requires texts { All (IsSound source.now.text.now) source.now.tokens.now }
     ensures ok { IfOk result (λ f. IsRead (ConBy source.now.text.now (front (drop at.old source.now.tokens.now)) (drop at.old source.now.tokens.now)) left f.tree f.depth (drop at.new source.now.tokens.now)) }
     ensures err { IfErr result (Says source.now.tokens.now (AreDeep (ConBy source.now.text.now (front (drop at.old source.now.tokens.now)) (drop at.old source.now.tokens.now)) left)) }
@@ -67,7 +66,7 @@ pub fn read_block(
     source: &Source,
     at: &mut usize,
     left: u32,
-) -> Result<Found<Expr>, ParseErr>
+) -> Result<FoundExpr, ParseErr>
     requires texts { All (IsSound source.now.text.now) source.now.tokens.now }
     ensures ok { IfOk result (λ f. IsRead (ConBy source.now.text.now Front.Upper (drop at.old source.now.tokens.now)) left f.tree f.depth (drop at.new source.now.tokens.now)) }
     ensures err { IfErr result (Says source.now.tokens.now (AreDeep (ConBy source.now.text.now Front.Upper (drop at.old source.now.tokens.now)) left)) }
@@ -85,7 +84,7 @@ fn read_cell(
     source: &Source,
     at: &mut usize,
     left: u32,
-) -> Result<Found<Expr>, ParseErr>
+) -> Result<FoundExpr, ParseErr>
     requires texts { All (IsSound source.now.text.now) source.now.tokens.now }
     ensures ok { IfOk result (λ f. IsRead (ConBy source.now.text.now Front.OpenParen (drop at.old source.now.tokens.now)) left f.tree f.depth (drop at.new source.now.tokens.now)) }
     ensures err { IfErr result (Says source.now.tokens.now (AreDeep (ConBy source.now.text.now Front.OpenParen (drop at.old source.now.tokens.now)) left)) }

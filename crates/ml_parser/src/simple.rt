@@ -13,9 +13,8 @@ use ml_cursor::{ParseErr, skip};
 use ml_grammar::{ListKind, Suffix};
 use ml_parse_forms::begins::suffix_at;
 use ml_parse_forms::brackets::{close_index, field_of};
-use ml_parse_forms::found::{Found, as_part};
+use ml_parse_forms::found::{FoundExpr, as_part};
 use ml_parse_forms::source::Source;
-use ml_tree::Expr;
 use std::alloc::Global;
 
 /// An atom with the `.name` and `.[seq]` behind it.
@@ -26,7 +25,7 @@ pub fn read_simple(
     source: &Source,
     at: &mut usize,
     left: u32,
-) -> Result<Found<Expr>, ParseErr>
+) -> Result<FoundExpr, ParseErr>
     requires texts { All (IsSound source.now.text.now) source.now.tokens.now }
     ensures ok { IfOk result (λ f. IsRead (Reads source.now.text.now simple (drop at.old source.now.tokens.now)) left f.tree f.depth (drop at.new source.now.tokens.now)) }
     ensures err { IfErr result (Says source.now.tokens.now (AreDeep (Reads source.now.text.now simple (drop at.old source.now.tokens.now)) left)) }
@@ -45,9 +44,9 @@ fn read_suffix(
     alloc: Global,
     source: &Source,
     at: &mut usize,
-    found: Found<Expr>,
+    found: FoundExpr,
     left: u32,
-) -> Result<Found<Expr>, ParseErr>
+) -> Result<FoundExpr, ParseErr>
     requires stands { suffix (drop at.old source.now.tokens.now) ≢ Suffix.Nothing }
     requires small { found.depth ≤ left }
     requires texts { All (IsSound source.now.text.now) source.now.tokens.now }
@@ -68,9 +67,9 @@ fn read_index(
     alloc: Global,
     source: &Source,
     at: &mut usize,
-    found: Found<Expr>,
+    found: FoundExpr,
     left: u32,
-) -> Result<Found<Expr>, ParseErr>
+) -> Result<FoundExpr, ParseErr>
     requires small { found.depth < left }
     requires texts { All (IsSound source.now.text.now) source.now.tokens.now }
     ensures ok { IfOk result (λ f. IsRead (OneSuffix source.now.text.now found.tree found.depth Suffix.Index (drop at.old source.now.tokens.now)) left f.tree f.depth (drop at.new source.now.tokens.now)) }

@@ -480,7 +480,7 @@ operand::read_function-returns-in_err-arms-clause-err t c =
 pub operand::read_function-returns-clause-ok : goal.operand::read_function-returns-clause-ok
 operand::read_function-returns-clause-ok t c =
     let less : c.in_ok-head.head.below < c.args.left = omega (arith, c.in_ok-head.ensures.below) in
-    function_read c.in_ok-head.ensures.passed c.in_ok-head.ensures.span less c.in_ok-arms.ensures.ok c.function.ensures.tree c.function.ensures.depth
+    function_read c.in_ok-head.ensures.passed c.in_ok-head.ensures.span less c.in_ok-arms.ensures.ok c.in_ok-function.ensures.tree c.in_ok-function.ensures.depth
 
 pub operand::read_if-returns-in_err-head-clause-err : goal.operand::read_if-returns-in_err-head-clause-err
 operand::read_if-returns-in_err-head-clause-err t c = relay _ _ _ no_operand_room c.in_err-head.ensures.err c.from_residual.ensures.1
@@ -543,15 +543,15 @@ operand::read_match-returns-clause-ok t c =
 pub operand::read_minus-returns-in_err-head-clause-err : goal.operand::read_minus-returns-in_err-head-clause-err
 operand::read_minus-returns-in_err-head-clause-err t c = relay _ _ _ no_operand_room c.in_err-head.ensures.err c.from_residual.ensures.1
 
-pub operand::read_minus-returns-in_err-operand-clause-err : goal.operand::read_minus-returns-in_err-operand-clause-err
-operand::read_minus-returns-in_err-operand-clause-err t c =
+pub operand::read_minus-returns-in_err-negated-clause-err : goal.operand::read_minus-returns-in_err-negated-clause-err
+operand::read_minus-returns-in_err-negated-clause-err t c =
     let room : c.args.left ≤ c.in_ok-head.head.below + 1 = omega (arith, c.in_ok-head.ensures.below) in
-    relay _ _ _ (minus_deep c.in_ok-head.ensures.passed room) c.in_err-operand.ensures.err c.from_residual-in_err-operand.ensures.1
+    relay _ _ _ (minus_deep c.in_ok-head.ensures.passed room) c.in_err-negated.ensures.err c.from_residual-in_err-negated.ensures.1
 
 pub operand::read_minus-returns-clause-ok : goal.operand::read_minus-returns-clause-ok
 operand::read_minus-returns-clause-ok t c =
     let less : c.in_ok-head.head.below < c.args.left = omega (arith, c.in_ok-head.ensures.below) in
-    minus_read c.in_ok-head.ensures.passed c.in_ok-head.ensures.span less c.in_ok-operand.ensures.ok c.in_ok-minus.ensures.tree c.in_ok-minus.ensures.depth
+    minus_read c.in_ok-head.ensures.passed c.in_ok-head.ensures.span less c.in_ok-negated.ensures.ok c.in_ok-minus.ensures.tree c.in_ok-minus.ensures.depth
 
 pub operand::read_operand-returns-in-Let-clause-ok : goal.operand::read_operand-returns-in-Let-clause-ok
 operand::read_operand-returns-in-Let-clause-ok t c = if_ok c.read_let.result (λ f h. operand_read c.in-Let.ensures h) c.read_let.ensures.ok

@@ -1,3 +1,4 @@
+use Rattle.std.proofs.Common.{refl}
 use Rattle.ml_grammar.proofs.Handed.{takes, parens_not_closed}
 use Rattle.ml_parse_patterns.proofs.Relays.{relay}
 use Rattle.ml_parse_forms.proofs.Closings.{paren_closed, typed_closed}
@@ -17,4 +18,4 @@ pub returns-clause-closes : goal.returns-clause-closes
 returns-clause-closes c =
     let colon = c.in_ok-expect.ensures in
     let close = c.in_ok-close.ensures in
-    typed_closed colon.stands colon.passed c.in_ok-ty.ensures.ok close.stands close.passed close.span c.joined.ensures c.in_ok-new.ensures c.node.ensures.tree
+    typed_closed colon.stands colon.passed c.in_ok-ty.ensures.ok close.stands close.passed close.span c.joined.ensures refl c.in_ok-node.ensures.tree

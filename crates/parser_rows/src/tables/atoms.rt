@@ -1,0 +1,56 @@
+//! Atoms and what goes on behind them, with their trees.
+
+use crate::tables::Case;
+
+/// Each kind of atom, fields and indices.
+pub const ATOMS: [Case; 40] = [
+    ("", ""),
+    (";;", ""),
+    (
+        ";; let x = 1 ;; ;; let y = 2",
+        "(let [x = 1]) (let [y = 2])",
+    ),
+    ("let x = 1", "(let [x = 1])"),
+    ("let x = 'a'", "(let [x = #97])"),
+    ("let x = \"a\\nb\"", "(let [x = \"a\nb\"])"),
+    ("let x = y", "(let [x = y])"),
+    ("let x = A", "(let [x = A])"),
+    ("let x = String.length", "(let [x = String.length])"),
+    ("let x = true", "(let [x = true])"),
+    ("let x = false", "(let [x = false])"),
+    ("let x = ()", "(let [x = ()])"),
+    ("let x = ( )", "(let [x = ()])"),
+    ("let x = [ ]", "(let [x = []])"),
+    ("let x = (y)", "(let [x = <y>])"),
+    ("let x = ((y))", "(let [x = <<y>>])"),
+    ("let x = begin y end", "(let [x = <y>])"),
+    ("let x = begin y; end", "(let [x = <y>])"),
+    ("let x = (y; z)", "(let [x = <(; y z)>])"),
+    ("let x = (y : int)", "(let [x = (: y (int))])"),
+    ("let x = (y; z : int)", "(let [x = (: (; y z) (int))])"),
+    ("let x = [y]", "(let [x = [ y]])"),
+    ("let x = [y; z;]", "(let [x = [ y z]])"),
+    ("let x = [y, z; w]", "(let [x = [ (, y z) w]])"),
+    ("let x = {f = y; g = z;}", "(let [x = { f=y g=z}])"),
+    ("let x = {f; g = 1, 2}", "(let [x = { f=f g=(, 1 2)}])"),
+    ("let x = y.f.g", "(let [x = (.g (.f y))])"),
+    ("let x = y.[1].f", "(let [x = (.f (.[] y 1))])"),
+    ("let x = M.y.f", "(let [x = (.f M.y)])"),
+    ("let x = y.[1; 2]", "(let [x = (.[] y (; 1 2))])"),
+    ("let x = 0x1F", "(let [x = 31])"),
+    ("let x = begin y; z end", "(let [x = <(; y z)>])"),
+    ("let x = (y;)", "(let [x = <y>])"),
+    ("let x = [(); []; (y)]", "(let [x = [ () [] <y>]])"),
+    ("let x = {f = y}", "(let [x = { f=y}])"),
+    ("let x = {f; g;}", "(let [x = { f=f g=g}])"),
+    ("let x = \"s\".[0]", "(let [x = (.[] \"s\" 0)])"),
+    ("let x = (y).f.[0].g", "(let [x = (.g (.[] (.f <y>) 0))])"),
+    (
+        "let x = (y : int list -> int)",
+        "(let [x = (: y (-> (list (int)) (int)))])",
+    ),
+    (
+        "let x = -4611686018427387904",
+        "(let [x = (- -4611686018427387904)])",
+    ),
+];
