@@ -1,0 +1,15 @@
+pub mod Tables
+pub mod Leaving
+pub mod Layers
+pub mod ExpressionLayers
+pub mod Firsts
+pub mod Around
+pub mod Crossings
+pub mod Grows
+pub mod TypeGrows
+pub mod PatternGrows
+pub mod ExpressionGrows
+pub mod ProgramGrows
+pub mod Targets
+pub mod Counts
+pub mod InOrder

@@ -1,0 +1,15 @@
+pub mod Names
+pub mod Chains
+pub mod Journal
+pub mod Shapes
+pub mod Types
+pub mod Uses
+pub mod Patterns
+pub mod Binding
+pub mod Expressions
+pub mod Items
+pub mod Readings
+pub mod Captures
+pub mod CaptureWalk
+pub mod Resolving
+pub mod FreeNames
