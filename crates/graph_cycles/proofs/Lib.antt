@@ -1,0 +1,5 @@
+pub mod Lists
+pub mod Paths
+pub mod Grouped
+pub mod Certificates
+pub mod Walks

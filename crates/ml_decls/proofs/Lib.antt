@@ -1,0 +1,12 @@
+pub mod Members
+pub mod Firsts
+pub mod Repeats
+pub mod Referring
+pub mod Rings
+pub mod Marks
+pub mod Whole
+pub mod Trees
+pub mod Forms
+pub mod Finds
+pub mod Seen
+pub mod Infos

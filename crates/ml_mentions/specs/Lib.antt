@@ -1,0 +1,4 @@
+pub mod Lists
+pub mod Mentions
+pub mod Written
+pub mod Programs
