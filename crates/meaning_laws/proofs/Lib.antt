@@ -1,0 +1,3 @@
+mod Layers
+pub mod Binding
+pub mod Printing

@@ -1,0 +1,9 @@
+pub mod Counts
+pub mod Folded
+pub mod Forms
+pub mod Grows
+pub mod Opening
+pub mod Parts
+pub mod Places
+pub mod Tables
+pub mod Taking

@@ -1,0 +1,4 @@
+pub mod Parts
+pub mod Table
+pub mod Taken
+pub mod Used

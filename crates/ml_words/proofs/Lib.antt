@@ -1,0 +1,4 @@
+pub mod Lookups
+pub mod Numbers
+pub mod Quotients
+pub mod Texts
