@@ -1,13 +1,13 @@
 -- How the parts of the command make its answers.
-use Rattle.std.proofs.Common.{◌≡◌, ℕ, ◌≤◌, ◌⊎◌, inl, inr, true, List, [], length, Some, refl, sym, ◌∙◌, append-nil, subst, arith}
+use Rattle.std.proofs.Common.{◌≡◌, ℕ, ◌≤◌, ◌⊎◌, inl, inr, true, List, [], length, Some, refl, sym, ◌∙◌, append-nil, subst}
 use Rattle.oxml_base.specs.declared.outside.ShelfCall.{ShelfCall}
 use Rattle.oxml_base.specs.declared.outside.ShelfCall.TheVariants.{Load, Save}
 use Rattle.oxml_base.specs.declared.refusal.Refusal.{Refusal}
 use Rattle.oxml_base.specs.Outside.{ShelfView, SinkView, Rose, SameHeld, SameBut, SameFaults, ShelfFails, HoldsMore, GainsPart}
 use Rattle.oxml_base.specs.declared.refusal.Limit.{Limit}
-use Rattle.oxml_driver.specs.Build.{IsRefused, Passes, bytes, tokens, most_bytes}
-use Rattle.oxml_driver.specs.Command.{World, HasSource, IsWrong, IsTooLong, IsOver, of_bytes, of_tokens, IsBuilt, Says, IsReadFault, IsLine, GainsParts, IsWriteFault, Answers, built, refused, usage, read_fault, write_fault, limit, no_memory}
-use Rattle.oxml_driver.specs.Lines.{bytes_limit_line, limit_line, read_fault_line, refusal_line, tokens_limit_line, write_fault_line}
+use Rattle.oxml_driver.specs.Build.{IsRefused, Passes, most_bytes}
+use Rattle.oxml_driver.specs.Command.{World, HasSource, IsWrong, IsTooLong, IsOver, of_bytes, of_source, IsBuilt, Says, IsReadFault, IsLine, GainsParts, IsWriteFault, Answers, built, refused, usage, read_fault, write_fault, limit, no_memory}
+use Rattle.oxml_driver.specs.Lines.{bytes_limit_line, limit_line, read_fault_line, refusal_line, write_fault_line}
 use Rattle.oxml_driver.specs.Said.{Said, said, unsaid, not_made, SaidUnread, tried, not_tried, AnswersBuild}
 use Rattle.oxml_driver.specs.Words.{IsBuild}
 
@@ -101,11 +101,10 @@ module _ (file out_name : List ℕ) (shelf : ShelfView) (err err' : SinkView) (s
   answers_refused refusal why (not_made is_6 gains) = λ words out words_are.
       no_memory is_6 (record { held = same_held shelf; out = refl; err = gains })
 
-  -- the source, which is short, passes the limit of tokens
+  -- the source, which is short, passes a limit
   pub answers_passed : {passed : Limit} → length source ≤ most_bytes → Passes source passed → Said 5 status err err' (limit_line file passed) → AnswersBuild file out_name shelf shelf err err' status
-  answers_passed short (bytes long) = absurd (omega arith)
-  answers_passed short (tokens within many) =
-      answers_over file out_name shelf shelf err err' status (tokens_limit_line file) (λ words out words_are. of_tokens (record { has_source = record { words_are = words_are; told = told }; short = within; many = many })) (same_faults shelf) (same_held shelf)
+  answers_passed {passed} short passes =
+      answers_over file out_name shelf shelf err err' status (limit_line file passed) (λ words out words_are. of_source (record { has_source = record { words_are = words_are; told = told }; short = short; passes = passes })) (same_faults shelf) (same_held shelf)
 
 -- ---- a load that succeeded changes nothing that is seen
 
@@ -161,8 +160,8 @@ module _ (old mid : ShelfView) (held : SameHeld old mid) (calm : SameFaults old 
 
     over_before : {file out_name line : List ℕ} → IsOver words between file out_name line → IsOver words before file out_name line
     over_before (of_bytes long) = of_bytes (too_long_before long)
-    over_before (of_tokens many) =
-        of_tokens (record { has_source = source_is many.has_source; short = many.short; many = many.many })
+    over_before (of_source over) =
+        of_source (record { has_source = source_is over.has_source; short = over.short; passes = over.passes })
 
     line_before : {line : List ℕ} → IsLine words between line → IsLine words before line
     line_before (inl misread) = inl misread

@@ -3,10 +3,10 @@ use Rattle.std.proofs.Common.{◌≡◌, ℕ, ◌+◌, ◌<◌, ◌⊎◌, inl, 
 use Rattle.oxml_base.specs.declared.outside.ShelfCall.TheVariants.{Save}
 use Rattle.oxml_base.specs.Outside.{Rose, ShelfFails}
 use Rattle.oxml_base.specs.declared.refusal.Limit.{Limit}
-use Rattle.oxml_base.specs.declared.refusal.Limit.TheVariants.{Bytes, Tokens}
+use Rattle.oxml_base.specs.declared.refusal.Limit.TheVariants.{Bytes}
 use Rattle.oxml_base.specs.declared.refusal.Refusal.{Refusal}
-use Rattle.oxml_driver.specs.Build.{IsRefused, Passes, bytes, tokens, PrintsTexts, most_bytes}
-use Rattle.oxml_driver.specs.Command.{World, HasSource, IsMisread, IsOver, of_bytes, of_tokens, IsTooLong, IsWriteFault, Answers, built, refused, usage, read_fault, write_fault, limit, no_memory, NothingFailed, TellsSource, IsDecided}
+use Rattle.oxml_driver.specs.Build.{IsRefused, Passes, bytes, PrintsTexts, most_bytes}
+use Rattle.oxml_driver.specs.Command.{World, HasSource, IsMisread, IsOver, of_bytes, of_source, IsTooLong, IsWriteFault, Answers, built, refused, usage, read_fault, write_fault, limit, no_memory, NothingFailed, TellsSource, IsDecided}
 use Rattle.oxml_driver.proofs.TakenOnce.{accepted_or_refused, accepted_or_over, refused_or_over}
 use Rattle.oxml_driver.specs.Words.{IsBuild}
 
@@ -35,13 +35,13 @@ is_long words old file out_name told long tells =
 is_over : (words : List (List ℕ)) (old : World) (file out_name line told : List ℕ) → IsOver words old file out_name line → TellsSource words old told → (passed : Limit) × Passes told passed
 is_over words old file out_name line told (of_bytes long) tells =
     (Bytes (most_bytes + 1), bytes (is_long words old file out_name told long tells))
-is_over words old file out_name line told (of_tokens {source} many) tells =
-    let same = same_source words old file out_name source told many.has_source tells in
-    subst (λ s. (passed : Limit) × Passes s passed) same (Tokens 200001, tokens many.short many.many)
+is_over words old file out_name line told (of_source {source} {passed} over) tells =
+    let same = same_source words old file out_name source told over.has_source tells in
+    (passed, subst (λ s. Passes s passed) same over.passes)
 
 over_words : (words : List (List ℕ)) (old : World) (file out_name line : List ℕ) → IsOver words old file out_name line → IsBuild words file out_name
 over_words words old file out_name line (of_bytes long) = long.words_are
-over_words words old file out_name line (of_tokens many) = many.has_source.words_are
+over_words words old file out_name line (of_source over) = over.has_source.words_are
 
 no_write_fault : (words : List (List ℕ)) (old new : World) → NothingFailed old new → IsWriteFault words old new → ⊥
 no_write_fault words old new nothing fault = by_cause fault.cause

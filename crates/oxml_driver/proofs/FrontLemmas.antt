@@ -7,11 +7,17 @@ use Rattle.oxml_base.specs.declared.rule.Rule.TheVariants.{LeftOut as FormLeftOu
 use Rattle.oxml_base.specs.declared.span.Span.{Span}
 use Rattle.oxml_driver.specs.Prelude.{prelude}
 use Rattle.ml_tree.specs.declared.program.Program.{Program}
+use Rattle.ml_tree.specs.declared.scoped.Scoped.{Scoped}
+use Rattle.ml_decls.specs.Offences.{IsFirst, Offends}
+use Rattle.ml_scope.specs.Resolving.{Explains, IsResolved}
+use Rattle.ml_scope.specs.declared.scoping.ScopeErr.TheVariants.{Refused as ScopeRefused, Limit as ScopeLimit}
 use Rattle.oxml_driver.specs.Form.{LeftOut}
 use Rattle.ml_lexer.specs.declared.token.Token.{Token}
 use Rattle.oxml_driver.specs.declared.compile.CompileErr.{CompileErr}
 use Rattle.oxml_driver.specs.declared.compile.CompileErr.TheVariants.{Refused, Limit, NoMemory}
-use Rattle.oxml_driver.specs.Build.{IsRefused, NotCompiled, Passes, tokens, lexical, syntax_error, form, most_bytes}
+use Rattle.oxml_driver.specs.Build.{IsRefused, NotCompiled, Passes, captures, tokens, lexical, syntax_error, misnamed, ill_declared, form, most_bytes}
+use Rattle.oxml_driver.specs.Declarations.{IsDeclared}
+use Rattle.oxml_driver.specs.Names.{IsScoped}
 use Rattle.oxml_driver.specs.Source.{AreTokens, HasNoTree, IsProgram, HasTokens, IsTooMany, LexFails, program_text, file_part, built_in_part, in_file, in_built_in, most_tokens}
 
 passes : (source : List ℕ) (limit : Passed) (span : Option Span) → length source ≤ most_bytes → IsTooMany source → limit ≡ Tokens (most_tokens + 1) → span ≡ None → Passes source limit × (span ≡ None)
@@ -45,11 +51,40 @@ syntax_fails source text list refusal short is are rule none = record {
   violates = syntax_error rule (record { tokens = list; are_tokens = are; no_tree = subst (λ t. HasNoTree t list) is none });
 }
 
-pub form_fails : (source text : List ℕ) (program : Program) (refusal : Refusal) → length source ≤ most_bytes → text ≡ program_text source → IsProgram source program → refusal.rule ≡ FormLeftOut → LeftOut text (length source) program.items refusal.span → IsRefused source refusal
-form_fails source text program refusal short is is_program rule left = record {
+pub names_fail : (source text : List ℕ) (program : Program) (refusal : Refusal) → length source ≤ most_bytes → text ≡ program_text source → IsProgram source program → Explains text program.items (ScopeRefused refusal) → IsRefused source refusal
+names_fail source text program refusal short is is_program first = record {
   short = short;
-  violates = form rule is_program (subst (λ t. LeftOut t (length source) program.items refusal.span) is left);
+  violates = misnamed (record { program = program; is_program = is_program; first = subst (λ t. Explains t program.items (ScopeRefused refusal)) is first });
 }
+
+pub names_pass : (source text : List ℕ) (program : Program) (limit : Passed) → length source ≤ most_bytes → text ≡ program_text source → IsProgram source program → Explains text program.items (ScopeLimit limit) → Passes source limit
+names_pass source text program limit short is is_program why =
+    let (which, sound, many) = subst (λ t. Explains t program.items (ScopeLimit limit)) is why in
+    subst (λ l. Passes source l) (sym which) (captures short (record { program = program; is_program = is_program; sound = sound; many = many }))
+
+pub is_scoped : (source text : List ℕ) (program : Program) (scoped : Scoped) → text ≡ program_text source → IsProgram source program → IsResolved text program scoped → IsScoped source scoped
+is_scoped source text program scoped is is_program resolved =
+    let same = sym resolved.program in
+    record {
+      is_program = subst (λ p. IsProgram source p) same is_program;
+      resolved = subst (λ p. IsResolved (program_text source) p scoped) same (subst (λ t. IsResolved t program scoped) is resolved);
+    }
+
+pub declarations_fail : (source text : List ℕ) (scoped : Scoped) (refusal : Refusal) → length source ≤ most_bytes → text ≡ program_text source → IsScoped source scoped → IsFirst text scoped.types scoped.program.items refusal → IsRefused source refusal
+declarations_fail source text scoped refusal short is is_scoped first = record {
+  short = short;
+  violates = ill_declared (record { scoped = scoped; is_scoped = is_scoped; first = subst (λ t. IsFirst t scoped.types scoped.program.items refusal) is first });
+}
+
+pub is_declared : (source text : List ℕ) (scoped : Scoped) → text ≡ program_text source → IsScoped source scoped → ((refusal : Refusal) → Offends text scoped.types scoped.program.items refusal → ⊥) → IsDeclared source scoped
+is_declared source text scoped is is_scoped sound = record {
+  is_scoped = is_scoped;
+  sound = subst (λ t. (refusal : Refusal) → Offends t scoped.types scoped.program.items refusal → ⊥) is sound;
+}
+
+pub form_fails : (source : List ℕ) (scoped : Scoped) (refusal : Refusal) → length source ≤ most_bytes → IsDeclared source scoped → refusal.rule ≡ FormLeftOut → LeftOut scoped (length source) scoped.program.items refusal.span → IsRefused source refusal
+form_fails source scoped refusal short is_declared rule left =
+    record { short = short; violates = form rule is_declared left }
 
 pub built_in_part_is : (source text : List ℕ) → text ≡ program_text source → record { start = length source; end = length text } ≡ built_in_part source
 built_in_part_is source text is =

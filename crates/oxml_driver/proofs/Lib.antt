@@ -1,9 +1,11 @@
+mod BuiltInLemmas
 mod CommandLemmas
 mod CompileLemmas
 mod DecidedLemmas
 mod FormLemmas
 mod FrontLemmas
 mod LineLemmas
+mod MeaningLemmas
 mod PrinterAnswers
 mod PrinterCode
 mod PrinterEnds
@@ -11,4 +13,5 @@ mod PrinterLoop
 mod PrinterMemory
 mod PrinterRun
 mod PrinterTexts
+mod SameProgram
 mod TakenOnce

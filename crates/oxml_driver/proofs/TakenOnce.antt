@@ -1,5 +1,5 @@
 -- A source is accepted, refused or over a limit, and only one of these.
-use Rattle.std.proofs.Common.{◌≡◌, ℕ, List, length, subst, arith}
+use Rattle.std.proofs.Common.{◌≡◌, ℕ, List, [], length, subst, sym, ap, ◌∙◌, arith}
 use Rattle.oxml_base.specs.declared.refusal.Limit.{Limit}
 use Rattle.oxml_base.specs.declared.refusal.Refusal.{Refusal}
 use Rattle.oxml_base.specs.declared.span.Span.{Span}
@@ -7,10 +7,18 @@ use Rattle.ml_lexer.specs.declared.token.Token.{Token}
 use Rattle.ml_lexer.proofs.Unique.{one_list, never_both, no_more_tokens, no_more_before_fault}
 use Rattle.ml_tree.specs.declared.program.Item.{Item}
 use Rattle.ml_tree.specs.declared.program.Program.{Program}
+use Rattle.ml_tree.specs.declared.scoped.Scoped.{Scoped}
+use Rattle.ml_scope.specs.Captures.{captures}
+use Rattle.ml_scope.specs.Readings.{Among, offences, references, type_references}
+use Rattle.ml_scope.specs.Resolving.{found_in}
 use Rattle.ml_grammar.specs.Programs.{Derives}
 use Rattle.ml_grammar.proofs.Programs.{one_program}
-use Rattle.oxml_driver.specs.Build.{IsRefused, Passes, PrintsTexts, Violates, lexical, syntax_error, form, bytes, tokens}
-use Rattle.oxml_driver.specs.Form.{IsLeftOut, ItemPrints, LeftOut, PrintTexts, built_in, prints, nothing, item_and, here, behind}
+use Rattle.oxml_driver.specs.Build.{IsRefused, Passes, PrintsTexts, Violates, lexical, syntax_error, misnamed, ill_declared, form, bytes, tokens, captures as of_captures}
+use Rattle.oxml_driver.specs.Form.{IsLeftOut, ItemPrints, LeftOut, PrintTexts, built_in, prints, prints_none, binds_other, nothing, item_and, here, behind}
+use Rattle.ml_decls.specs.Offences.{Offends}
+use Rattle.oxml_driver.specs.Declarations.{IsDeclared, IsIllDeclared}
+use Rattle.oxml_driver.specs.Names.{HasManyCaptures, IsMisnamed, IsScoped}
+use Rattle.oxml_driver.proofs.SameProgram.{print_too}
 use Rattle.oxml_driver.specs.Source.{AreTokens, HasTokens, HasFault, HasTooMany, IsFaulty, IsTooMany, IsProgram, IsNoProgram, in_file, in_built_in, program_text}
 
 -- ---- a part of a text has tokens, a fault or too many
@@ -67,40 +75,110 @@ one_program_of : {source : List ℕ} {p q : Program} → IsProgram source p → 
 one_program_of {source} {p} {q} one other =
     one_program _ _ _ _ other.derives (subst (λ ts. Derives (program_text source) ts p) (one_tokens other.are_tokens one.are_tokens) one.derives)
 
+-- ---- the names of a program
+
+-- the journal of what the program of a source uses and declares is one
+same_names : {source : List ℕ} {p q : Program} → IsProgram source p → IsProgram source q → found_in (program_text source) p.items ≡ found_in (program_text source) q.items
+same_names {source} one other =
+    ap (λ p. found_in (program_text source) p.items) (one_program_of one other)
+
+offends : (r : Refusal) (rs : List Refusal) → Among r rs → rs ≡ [] → ⊥
+offends r rs among none = subst (λ rs. Among r rs) none among
+
+scoped_or_misnamed : {source : List ℕ} {scoped : Scoped} {r : Refusal} → IsScoped source scoped → IsMisnamed source r → ⊥
+scoped_or_misnamed {source} {scoped} {r} is wrong =
+    offends r _ wrong.first.among (ap offences (same_names wrong.is_program is.is_program) ∙ is.resolved.sound)
+
+many_or_misnamed : {source : List ℕ} {r : Refusal} → HasManyCaptures source → IsMisnamed source r → ⊥
+many_or_misnamed {source} {r} many wrong =
+    offends r _ wrong.first.among (ap offences (same_names wrong.is_program many.is_program) ∙ many.sound)
+
+scoped_or_many : {source : List ℕ} {scoped : Scoped} → IsScoped source scoped → HasManyCaptures source → ⊥
+scoped_or_many is many =
+    let same = ap (λ js. length (captures js)) (same_names is.is_program many.is_program) in
+    let few = is.resolved.few in
+    let more = many.many in
+    omega (arith, same, few, more)
+
+-- what the nodes of a source's program name is one list
+same_refs : {source : List ℕ} {s t : Scoped} → IsScoped source s → IsScoped source t → s.refs ≡ t.refs
+same_refs one other =
+    one.resolved.refs ∙ (ap references (same_names one.is_program other.is_program) ∙ sym other.resolved.refs)
+
+-- what the type expressions of a source's program name is one list
+same_types : {source : List ℕ} {s t : Scoped} → IsScoped source s → IsScoped source t → s.types ≡ t.types
+same_types {source} one other =
+    one.resolved.types ∙ (ap (type_references (program_text source)) (same_names one.is_program other.is_program) ∙ sym other.resolved.types)
+
+-- ---- the declarations of a program
+
+ill_or_declared : {source : List ℕ} {scoped : Scoped} {r : Refusal} → IsDeclared source scoped → IsIllDeclared source r → ⊥
+ill_or_declared {source} {scoped} {r} is wrong =
+    let types = same_types wrong.is_scoped is.is_scoped in
+    let program = one_program_of wrong.is_scoped.is_program is.is_scoped.is_program in
+    let with_types = subst (λ types. Offends (program_text source) types wrong.scoped.program.items r) types wrong.first.offends in
+    is.sound r (subst (λ p. Offends (program_text source) scoped.types p.items r) program with_types)
+
 -- ---- the items of a file all print, or one is left out
 
-prints_or_not : {text : List ℕ} {size : ℕ} {item : Item} {first : List (List ℕ)} → ItemPrints text size item first → IsLeftOut text size item → ⊥
-prints_or_not (built_in behind_file) left = let before = left.of_file in omega arith
-prints_or_not (prints of_file printed) left = left.prints_none _ printed
+prints_or_not : {s : Scoped} {size : ℕ} {item : Item} {first : List (List ℕ)} → ItemPrints s size item first → IsLeftOut s size item → ⊥
+prints_or_not (built_in behind_file binds) (prints_none of_file none) = omega arith
+prints_or_not (built_in behind_file binds) (binds_other is_behind not) = not binds
+prints_or_not (prints of_file printed) (prints_none is_of_file none) = none _ printed
+prints_or_not (prints of_file printed) (binds_other behind_file not) = omega arith
 
-all_or_left_out : {text : List ℕ} {size : ℕ} {items : List Item} {texts : List (List ℕ)} {span : Span} → PrintTexts text size items texts → LeftOut text size items span → ⊥
+all_or_left_out : {s : Scoped} {size : ℕ} {items : List Item} {texts : List (List ℕ)} {span : Span} → PrintTexts s size items texts → LeftOut s size items span → ⊥
 all_or_left_out nothing left = elim left [ ]
 all_or_left_out (item_and one rest) (here left) = prints_or_not one left
 all_or_left_out (item_and one rest) (behind other left) = all_or_left_out rest left
 
 -- ---- the three
 
+-- the items of a source that all print leave none out
+print_or_left_out : {source : List ℕ} {s t : Scoped} {texts : List (List ℕ)} {span : Span} → IsScoped source s → IsScoped source t → PrintTexts s (length source) s.program.items texts → LeftOut t (length source) t.program.items span → ⊥
+print_or_left_out {source} {s} {t} {texts} {span} one other print left =
+    let program = one_program_of one.is_program other.is_program in
+    let too = print_too s t program (same_refs one other) (length source) print in
+    all_or_left_out (subst (λ p. PrintTexts t (length source) p.items texts) program too) left
+
 pub accepted_or_refused : {source : List ℕ} {texts : List (List ℕ)} {r : Refusal} → PrintsTexts source texts → IsRefused source r → ⊥
 accepted_or_refused {source} {texts} {r} accepted refused = by refused.violates
   where
     by : Violates source r → ⊥
-    by (lexical fault) = tokens_or_fault accepted.is_program.are_tokens fault
-    by (syntax_error rule none) = program_or_none accepted.is_program none
+    by (lexical fault) = tokens_or_fault accepted.is_declared.is_scoped.is_program.are_tokens fault
+    by (syntax_error rule none) = program_or_none accepted.is_declared.is_scoped.is_program none
+    by (misnamed wrong) = scoped_or_misnamed accepted.is_declared.is_scoped wrong
+    by (ill_declared wrong) = ill_or_declared accepted.is_declared wrong
     by (form rule is left) =
-        all_or_left_out (subst (λ p. PrintTexts (program_text source) (length source) p.items texts) (one_program_of accepted.is_program is) accepted.print) left
+        print_or_left_out accepted.is_declared.is_scoped is.is_scoped accepted.print left
 
 pub accepted_or_over : {source : List ℕ} {texts : List (List ℕ)} {l : Limit} → PrintsTexts source texts → Passes source l → ⊥
 accepted_or_over accepted (bytes long) = let short = accepted.short in omega arith
-accepted_or_over accepted (tokens short many) = tokens_or_many accepted.is_program.are_tokens many
+accepted_or_over accepted (tokens short many) =
+    tokens_or_many accepted.is_declared.is_scoped.is_program.are_tokens many
+accepted_or_over accepted (of_captures short many) = scoped_or_many accepted.is_declared.is_scoped many
 
-pub refused_or_many : {source : List ℕ} {r : Refusal} → IsRefused source r → IsTooMany source → ⊥
-refused_or_many {source} {r} refused many = by refused.violates
+refused_or_many_tokens : {source : List ℕ} {r : Refusal} → IsRefused source r → IsTooMany source → ⊥
+refused_or_many_tokens {source} {r} refused many = by refused.violates
   where
     by : Violates source r → ⊥
     by (lexical fault) = fault_or_many fault many
     by (syntax_error rule none) = tokens_or_many none.are_tokens many
-    by (form rule is left) = tokens_or_many is.are_tokens many
+    by (misnamed wrong) = tokens_or_many wrong.is_program.are_tokens many
+    by (ill_declared wrong) = tokens_or_many wrong.is_scoped.is_program.are_tokens many
+    by (form rule is left) = tokens_or_many is.is_scoped.is_program.are_tokens many
+
+refused_or_many_captures : {source : List ℕ} {r : Refusal} → IsRefused source r → HasManyCaptures source → ⊥
+refused_or_many_captures {source} {r} refused many = by refused.violates
+  where
+    by : Violates source r → ⊥
+    by (lexical fault) = tokens_or_fault many.is_program.are_tokens fault
+    by (syntax_error rule none) = program_or_none many.is_program none
+    by (misnamed wrong) = many_or_misnamed many wrong
+    by (ill_declared wrong) = scoped_or_many wrong.is_scoped many
+    by (form rule is left) = scoped_or_many is.is_scoped many
 
 pub refused_or_over : {source : List ℕ} {r : Refusal} {l : Limit} → IsRefused source r → Passes source l → ⊥
 refused_or_over refused (bytes long) = let short = refused.short in omega arith
-refused_or_over refused (tokens short many) = refused_or_many refused many
+refused_or_over refused (tokens short many) = refused_or_many_tokens refused many
+refused_or_over refused (of_captures short many) = refused_or_many_captures refused many

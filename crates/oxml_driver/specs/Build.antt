@@ -1,10 +1,10 @@
 -- What compiling a source comes to.
 use Rattle.std.specs.Prelude.{◌≡◌, ℕ, ◌+◌, ◌≤◌, ◌<◌, List, length, None, Ok}
 use Rattle.oxml_base.specs.declared.refusal.Limit.{Limit as Passed}
-use Rattle.oxml_base.specs.declared.refusal.Limit.TheVariants.{Bytes, Tokens}
+use Rattle.oxml_base.specs.declared.refusal.Limit.TheVariants.{Bytes, Captures, Tokens}
 use Rattle.oxml_base.specs.declared.refusal.Refusal.{Refusal}
-use Rattle.ml_tree.specs.declared.program.Program.{Program}
 use Rattle.oxml_base.specs.declared.rule.Rule.TheVariants.{LeftOut as FormLeftOut, Syntax}
+use Rattle.ml_tree.specs.declared.scoped.Scoped.{Scoped}
 use Rattle.x64_table.specs.declared.image.Code.{Code}
 use Rattle.x64_table.specs.declared.image.Sizes.{Sizes}
 use Rattle.x64_table.specs.Agreement.{Agrees, no_excuse}
@@ -14,7 +14,10 @@ use Rattle.oxml_driver.specs.declared.compile.CompileErr.{CompileErr}
 use Rattle.oxml_driver.specs.declared.compile.CompileErr.TheVariants.{Refused, Limit, NoMemory}
 use Rattle.oxml_driver.specs.Printer.{prints, printer_of}
 use Rattle.oxml_driver.specs.Form.{PrintTexts, LeftOut}
-use Rattle.oxml_driver.specs.Source.{IsFaulty, IsTooMany, IsProgram, IsNoProgram, most_tokens, program_text}
+use Rattle.oxml_driver.specs.Declarations.{IsDeclared, IsIllDeclared}
+use Rattle.oxml_driver.specs.Meaning.{meaning_of}
+use Rattle.oxml_driver.specs.Names.{HasManyCaptures, IsMisnamed, most_captures}
+use Rattle.oxml_driver.specs.Source.{IsFaulty, IsTooMany, IsNoProgram, most_tokens}
 
 -- the most bytes of a source
 abbrev pub most_bytes : ℕ
@@ -48,23 +51,33 @@ pub record IsPrinterCode (texts : List (List ℕ)) (code : Code) : Type 0 where
 -- the source is within the limit of bytes, and the items of its file print these texts
 pub record PrintsTexts (source : List ℕ) (texts : List (List ℕ)) : Type 0 where
   pub short : length source ≤ most_bytes
-  pub program : Program
-  pub is_program : IsProgram source program
-  pub print : PrintTexts (program_text source) (length source) program.items texts
+  pub scoped : Scoped
+  pub is_declared : IsDeclared source scoped
+  pub print : PrintTexts scoped (length source) scoped.program.items texts
 
--- the items of the source's file print texts, and the bytes are an executable that does just that
+-- the bytes load to an image of these sizes that does what the program means, whatever the kernel answers
+pub record IsExecutable (scoped : Scoped) (sizes : Sizes) (bytes : List ℕ) : Type 0 where
+  pub code : Code
+  pub loads : loaded bytes ≡ Ok (image_of code sizes)
+  pub agrees : Agrees (meaning_of scoped) no_excuse (image_of code sizes)
+
+-- the items of the source's file print texts, and the bytes are an executable that does what its program
+-- means
 pub record Compiles (source : List ℕ) (sizes : Sizes) (bytes : List ℕ) : Type 0 where
   pub texts : List (List ℕ)
   pub prints : PrintsTexts source texts
-  pub image : IsPrinter texts sizes bytes
+  pub image : IsExecutable prints.scoped sizes bytes
 
 -- the rule that a source of so many bytes violates, the first in the order of the compiler: a lexical
--- fault; where the tokens have no tree, the syntax; where they have one, a form that is left out
+-- fault; where the tokens have no tree, the syntax; where they have one, a rule of names; where no rule of
+-- names is violated, a rule of declarations; where none of these is, a form that is left out
 pub data Violates (source : List ℕ) : Refusal → Type 0 where
   lexical : {refusal : Refusal} → IsFaulty source refusal → Violates source refusal
   syntax_error : {refusal : Refusal} → refusal.rule ≡ Syntax → IsNoProgram source → Violates source refusal
-  form : {refusal : Refusal} {program : Program} → refusal.rule ≡ FormLeftOut → IsProgram source program →
-      LeftOut (program_text source) (length source) program.items refusal.span → Violates source refusal
+  misnamed : {refusal : Refusal} → IsMisnamed source refusal → Violates source refusal
+  ill_declared : {refusal : Refusal} → IsIllDeclared source refusal → Violates source refusal
+  form : {refusal : Refusal} {scoped : Scoped} → refusal.rule ≡ FormLeftOut → IsDeclared source scoped →
+      LeftOut scoped (length source) scoped.program.items refusal.span → Violates source refusal
 
 -- the source is within the limit of bytes and violates a rule
 pub record IsRefused (source : List ℕ) (refusal : Refusal) : Type 0 where
@@ -75,6 +88,7 @@ pub record IsRefused (source : List ℕ) (refusal : Refusal) : Type 0 where
 pub data Passes (source : List ℕ) : Passed → Type 0 where
   bytes : most_bytes < length source → Passes source (Bytes (most_bytes + 1))
   tokens : length source ≤ most_bytes → IsTooMany source → Passes source (Tokens (most_tokens + 1))
+  captures : length source ≤ most_bytes → HasManyCaptures source → Passes source (Captures (most_captures + 1))
 
 -- why a source is not compiled
 abbrev pub NotCompiled : List ℕ → CompileErr → Type 0

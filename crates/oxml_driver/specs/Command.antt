@@ -5,8 +5,7 @@ use Rattle.oxml_base.specs.Outside.{ShelfView, SinkView, Rose, SameHeld, SameBut
 use Rattle.oxml_base.specs.declared.refusal.Limit.{Limit}
 use Rattle.oxml_base.specs.declared.refusal.Refusal.{Refusal}
 use Rattle.oxml_driver.specs.Build.{Compiles, IsRefused, Passes, PrintsTexts, default_sizes, most_bytes}
-use Rattle.oxml_driver.specs.Lines.{usage_line, write_fault_line, no_memory_line, read_fault_line, bytes_limit_line, refusal_line, tokens_limit_line}
-use Rattle.oxml_driver.specs.Source.{IsTooMany}
+use Rattle.oxml_driver.specs.Lines.{usage_line, write_fault_line, no_memory_line, read_fault_line, bytes_limit_line, limit_line, refusal_line}
 use Rattle.oxml_driver.specs.Words.{IsBuild}
 
 -- what is seen of the outside
@@ -34,16 +33,17 @@ pub record IsTooLong (words : List (List ℕ)) (world : World) (file out : List 
   pub words_are : IsBuild words file out
   pub holds_more : HoldsMore world.shelf file most_bytes
 
--- the source has too many tokens
-pub record HasManyTokens (words : List (List ℕ)) (world : World) (file out source : List ℕ) : Type 0 where
+-- the source, which is not too long, passes this limit
+pub record PassesLimit (words : List (List ℕ)) (world : World) (file out source : List ℕ) (passed : Limit) : Type 0 where
   pub has_source : HasSource words world file out source
   pub short : length source ≤ most_bytes
-  pub many : IsTooMany source
+  pub passes : Passes source passed
 
 -- a limit is passed, with this line
 pub data IsOver (words : List (List ℕ)) (world : World) (file out : List ℕ) : List ℕ → Type 0 where
   of_bytes : IsTooLong words world file out → IsOver words world file out (bytes_limit_line file)
-  of_tokens : {source : List ℕ} → HasManyTokens words world file out source → IsOver words world file out (tokens_limit_line file)
+  of_source : {source : List ℕ} {passed : Limit} → PassesLimit words world file out source passed →
+      IsOver words world file out (limit_line file passed)
 
 -- ---- the answers
 

@@ -1,7 +1,10 @@
 pub mod Build
 pub mod Command
+pub mod Declarations
 pub mod Form
 pub mod Lines
+pub mod Meaning
+pub mod Names
 pub mod Prelude
 pub mod Printer
 pub mod Said

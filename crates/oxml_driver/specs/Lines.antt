@@ -1,7 +1,7 @@
 -- The lines that the command writes, each with its line feed.
 use Rattle.std.specs.Prelude.{ℕ, List, ◌++◌, take, codes, decimal}
 use Rattle.oxml_base.specs.declared.refusal.Limit.{Limit}
-use Rattle.oxml_base.specs.declared.refusal.Limit.TheVariants.{Tokens}
+use Rattle.oxml_base.specs.declared.refusal.Limit.TheVariants.{Captures, Tokens}
 use Rattle.oxml_base.specs.declared.refusal.Refusal.{Refusal}
 use Rattle.oxml_base.specs.LineColumn.{line_behind, column_behind}
 use Rattle.oxml_base.specs.Rules.{rule_number, rule_text}
@@ -24,9 +24,13 @@ bytes_limit_line file = file ++ codes ": limit bytes 1048577\n"
 abbrev pub tokens_limit_line : List ℕ → List ℕ
 tokens_limit_line file = file ++ codes ": limit tokens 200001\n"
 
+abbrev pub captures_limit_line : List ℕ → List ℕ
+captures_limit_line file = file ++ codes ": limit captures 100001\n"
+
 -- the line of a limit
 abbrev pub limit_line : List ℕ → Limit → List ℕ
 limit_line file (Tokens n) = tokens_limit_line file
+limit_line file (Captures n) = captures_limit_line file
 limit_line file limit = bytes_limit_line file
 
 -- a rule by its number and text, with a line and a column

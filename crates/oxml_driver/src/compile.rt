@@ -2,8 +2,9 @@ ghost use Rattle.std.specs.Prelude.{◌≡◌, ◌≤◌, ◌-◌, ◌^◌, min,
 ghost use Rattle.oxml_driver.specs.Build.{AreSizes, Compiles, IsPrinter, IsPrinterCode, NotCompiled, PrintsTexts, most_bytes};
 ghost use Rattle.oxml_driver.specs.Printer.{bytes_of, joined};
 
+use crate::declarations::read_declared;
 use crate::form::{FormErr, printed_texts};
-use crate::front::{program_text, read_program};
+use crate::front::program_text;
 use crate::printer::printer;
 use elf_image::write_image;
 use oxml_base::{Items, Limit, Lit, NoMemory, Refusal, Rule, Span};
@@ -31,8 +32,8 @@ pub enum CompileErr {
 /// Compiles a source to an executable with memory of these sizes.
 ///
 /// It refuses a source by the first rule that it violates, or the first limit that it passes, in the
-/// order of the compiler: bytes, tokens, lexical faults, the syntax, and the first item that is not
-/// built yet (rule 25).
+/// order of the compiler: bytes, tokens, lexical faults, the syntax, names, captures, declarations,
+/// and the first item that is not built yet (rule 25).
 pub fn compile(alloc: Global, source: &[u8], sizes: Sizes) -> Result<Vec<u8>, CompileErr>
     requires { AreSizes sizes }
     ensures ok { IfOk result (λ image. Compiles source.now sizes image.items) }
@@ -58,13 +59,8 @@ fn texts_of(alloc: Global, source: &[u8]) -> Result<Items<Lit>, CompileErr>
         Ok(text) => text,
         Err(NoMemory) => return Err(CompileErr::NoMemory),
     };
-    let program = read_program(alloc, source, text.as_slice())?;
-    match printed_texts(
-        alloc,
-        text.as_slice(),
-        source.len() as u32,
-        program.items.as_slice(),
-    ) {
+    let scoped = read_declared(alloc, source, text.as_slice())?;
+    match printed_texts(alloc, &scoped, source.len() as u32) {
         Ok(texts) => Ok(texts),
         Err(FormErr::LeftOut(span)) => Err(CompileErr::Refused(Refusal {
             rule: Rule::LeftOut,

@@ -1,13 +1,20 @@
 //! The items that can be compiled today: `let () = print_string TEXT`.
-ghost use Rattle.std.specs.Prelude.{◌≡◌, ◌≤◌, ◌<◌, ℕ, List, IfErr, IfNone, IfOk, IfSome, OnOk, length, ◌++◌, ◌∷◌, []};
+ghost use Rattle.std.specs.Prelude.{◌≡◌, ◌≤◌, ℕ, List, IfErr, IfNone, IfOk, IfSome, OnOk, Some, ◌++◌, ◌∷◌, []};
 ghost use Rattle.std.specs.Bool.{Decides};
 ghost use Rattle.oxml_base.specs.declared.literal.Lit.{Lit as Literal};
 ghost use Rattle.ml_tree.specs.declared.expr.Bind.{Bind as Binding};
 ghost use Rattle.ml_tree.specs.declared.expr.ExprKind.TheVariants.{Text};
-ghost use Rattle.oxml_driver.specs.Form.{AddsText, FormFails, ItemFails, IsForm, IsOnlyBind, IsPrintString, IsUnit, PrintTexts, Prints, PrintsText, Spells};
+ghost use Rattle.ml_tree.specs.declared.reference.Op.TheVariants.{PrintString};
+ghost use Rattle.ml_tree.specs.declared.reference.Ref.TheVariants.{Operation};
+ghost use Rattle.meaning_laws.specs.Items.{IsOnlyBind, IsPrintString, IsUnit, Prints, PrintsText};
+ghost use Rattle.oxml_driver.specs.Form.{AddsText, AreFunctions, FormFails, ItemFails, IsForm, PrintTexts};
 ghost use Rattle.oxml_driver.specs.Printer.{bytes_of};
 
-use ml_tree::{Bind, ConName, Expr, ExprKind, Item, ItemKind, Pat, PatKind};
+use crate::built_in::binds_functions;
+use bumpalo::Bump;
+use ml_functions::{Functions, functions};
+use ml_tree::{Bind, ConName, Expr, ExprKind, Item, ItemKind, Op, Pat, PatKind, Ref, Scoped};
+use ml_words::target;
 use oxml_base::{Items, Lit, NoMemory, Span};
 use std::alloc::Global;
 
@@ -20,19 +27,36 @@ pub enum FormErr {
 }
 
 /// The texts that the items of the file print, in order. The file takes up `size` bytes at the front
-/// of the text.
-pub fn printed_texts(
+/// of the text over which the spans count.
+pub fn printed_texts(alloc: Global, scoped: &Scoped, size: u32) -> Result<Items<Lit>, FormErr>
+    ensures ok { IfOk result (λ lits. PrintTexts scoped.now size scoped.now.program.items (bytes_of lits)) }
+    ensures err { IfErr result (FormFails scoped.now size scoped.now.program.items) }
+{
+    let bump = Bump::new(alloc);
+    match functions(alloc, &bump, scoped) {
+        Ok(functions) => {
+            let items = scoped.program().items.as_slice();
+            item_texts(alloc, scoped, functions, size, items)
+        }
+        Err(NoMemory) => Err(FormErr::NoMemory),
+    }
+}
+
+/// The texts that items print, in order.
+fn item_texts(
     alloc: Global,
-    text: &[u8],
+    scoped: &Scoped,
+    functions: Functions<'_>,
     size: u32,
     items: &[Item],
 ) -> Result<Items<Lit>, FormErr>
-    ensures ok { IfOk result (λ lits. PrintTexts text.now size items.now (bytes_of lits)) }
-    ensures err { IfErr result (FormFails text.now size items.now) }
+    requires table { AreFunctions scoped.now functions }
+    ensures ok { IfOk result (λ lits. PrintTexts scoped.now size items.now (bytes_of lits)) }
+    ensures err { IfErr result (FormFails scoped.now size items.now) }
 {
     let mut texts = Items::new(alloc);
     for item in items {
-        if let Err(error) = add_text(alloc, &mut texts, text, size, item) {
+        if let Err(error) = add_text(alloc, &mut texts, scoped, functions, size, item) {
             return Err(error);
         }
     }
@@ -43,14 +67,16 @@ pub fn printed_texts(
 fn add_text(
     alloc: Global,
     texts: &mut Items<Lit>,
-    text: &[u8],
+    scoped: &Scoped,
+    functions: Functions<'_>,
     size: u32,
     item: &Item,
 ) -> Result<(), FormErr>
-    ensures ok { OnOk result (AddsText text.now size item.now (bytes_of texts.old) (bytes_of texts.new)) }
-    ensures err { IfErr result (ItemFails text.now size item.now) }
+    requires table { AreFunctions scoped.now functions }
+    ensures ok { OnOk result (AddsText scoped.now size item.now (bytes_of texts.old) (bytes_of texts.new)) }
+    ensures err { IfErr result (ItemFails scoped.now size item.now) }
 {
-    match form_of(text, size, item) {
+    match form_of(scoped, functions, size, item) {
         Form::BuiltIn => Ok(()),
         Form::Other => Err(FormErr::LeftOut(item.span)),
         Form::Printing(literal) => match push_copy(alloc, texts, literal) {
@@ -63,36 +89,54 @@ fn add_text(
 /// What an item is.
 #[derive(Clone, Copy, Debug)]
 enum Form<'a> {
-    /// No item of the file.
+    /// A built-in definition.
     BuiltIn,
     /// One of the file that prints a text.
     Printing(&'a Lit),
-    /// Another one of the file.
+    /// Another one.
     Other,
 }
 
-fn form_of<'a>(text: &[u8], size: u32, item: &'a Item) -> Form<'a>
-    ensures { IsForm text.now size item.now result }
+fn form_of<'a>(scoped: &Scoped, functions: Functions<'_>, size: u32, item: &'a Item) -> Form<'a>
+    requires table { AreFunctions scoped.now functions }
+    ensures { IsForm scoped.now size item.now result }
 {
     if item.span.start >= size {
-        return Form::BuiltIn;
+        return built_in_form(scoped, functions, size, item);
     }
-    match printed(text, item) {
+    match printed(scoped, item) {
         Some(literal) => Form::Printing(literal),
         None => Form::Other,
     }
 }
 
+/// What an item is that is not of the file.
+fn built_in_form<'a>(
+    scoped: &Scoped,
+    functions: Functions<'_>,
+    size: u32,
+    item: &'a Item,
+) -> Form<'a>
+    requires table { AreFunctions scoped.now functions }
+    requires behind { size ≤ item.now.span.start }
+    ensures { IsForm scoped.now size item.now result }
+{
+    if binds_functions(scoped, functions, item) {
+        return Form::BuiltIn;
+    }
+    Form::Other
+}
+
 /// The text that an item prints; `None` where it is not `let () = print_string TEXT`.
-fn printed<'a>(text: &[u8], item: &'a Item) -> Option<&'a Lit>
-    ensures some { IfSome result (λ literal. PrintsText text.now item.now literal.now.bytes) }
-    ensures none { IfNone result ((bytes : List ℕ) → PrintsText text.now item.now bytes → ⊥) }
+fn printed<'a>(scoped: &Scoped, item: &'a Item) -> Option<&'a Lit>
+    ensures some { IfSome result (λ literal. PrintsText scoped.now item.now literal.now.bytes) }
+    ensures none { IfNone result ((bytes : List ℕ) → PrintsText scoped.now item.now bytes → ⊥) }
 {
     let bind = only_bind(item)?;
     if !is_unit(&bind.pat) {
         return None;
     }
-    printed_by(text, &bind.body)
+    printed_by(scoped, &bind.body)
 }
 
 /// The bind of an item `let .. = ..` that has one, without `rec`, parameters and a written type.
@@ -126,38 +170,34 @@ fn is_unit(pat: &Pat) -> bool
 }
 
 /// The text that `print_string TEXT` prints; `None` for any other expression.
-fn printed_by<'a>(text: &[u8], e: &'a Expr) -> Option<&'a Lit>
-    ensures some { IfSome result (λ literal. Prints text.now e.now literal.now.bytes) }
-    ensures none { IfNone result ((bytes : List ℕ) → Prints text.now e.now bytes → ⊥) }
+fn printed_by<'a>(scoped: &Scoped, e: &'a Expr) -> Option<&'a Lit>
+    ensures some { IfSome result (λ literal. Prints scoped.now e.now literal.now.bytes) }
+    ensures none { IfNone result ((bytes : List ℕ) → Prints scoped.now e.now bytes → ⊥) }
 {
     match &e.kind {
         ExprKind::Apply(head, arguments) => match arguments.as_slice() {
-            [argument] if is_print_string(text, head.get()) => literal_of(argument),
+            [argument] if is_print_string(scoped, head.get()) => literal_of(argument),
             _ => None,
         },
         _ => None,
     }
 }
 
-/// Whether an expression is the name `print_string`.
-fn is_print_string(text: &[u8], e: &Expr) -> bool
-    ensures { Decides result (IsPrintString text.now e.now) }
+/// Whether an expression is a name that stands for `print_string`.
+fn is_print_string(scoped: &Scoped, e: &Expr) -> bool
+    ensures { Decides result (IsPrintString scoped.now e.now) }
 {
     match &e.kind {
-        ExprKind::Name(name) => spells(text, *name, b"print_string"),
+        ExprKind::Name(_) => prints_string(target(scoped, e.id)),
         _ => false,
     }
 }
 
-/// Whether these bytes of the text are the word.
-fn spells(text: &[u8], span: Span, word: &[u8]) -> bool
-    requires { 0 < length word.now }
-    ensures { Decides result (Spells text.now span word.now) }
+/// Whether a node that names this names `print_string`.
+fn prints_string(target: Option<Ref>) -> bool
+    ensures { Decides result (target ≡ Some (Operation PrintString)) }
 {
-    match text.get(span.start as usize..span.end as usize) {
-        Some(bytes) => bytes == word,
-        None => false,
-    }
+    matches!(target, Some(Ref::Operation(Op::PrintString)))
 }
 
 /// The literal that an expression is.

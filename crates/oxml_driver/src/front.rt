@@ -1,6 +1,7 @@
 //! From the bytes of a source to its program.
 ghost use Rattle.std.specs.Prelude.{◌≡◌, ◌+◌, ◌++◌, ◌≤◌, IfErr, IfOk, List, length, All};
 ghost use Rattle.ml_lexer.specs.Tokens.{IsSound};
+ghost use Rattle.ml_numbers.specs.Ids.{IsNumbered};
 ghost use Rattle.oxml_driver.specs.Prelude.{prelude};
 ghost use Rattle.oxml_driver.specs.Build.{NotCompiled, most_bytes};
 ghost use Rattle.oxml_driver.specs.Source.{AreTokens, HasTokens, IsProgram, LexFails, built_in_part, file_part, program_text};
@@ -29,6 +30,7 @@ pub fn read_program(alloc: Global, source: &[u8], text: &[u8]) -> Result<Program
     requires short { length source.now ≤ most_bytes }
     requires text { text.now ≡ program_text source.now }
     ensures ok { IfOk result (IsProgram source.now) }
+    ensures numbered { IfOk result IsNumbered }
     ensures err { IfErr result (NotCompiled source.now) }
 {
     let tokens = all_tokens(alloc, source, text)?;

@@ -2,7 +2,7 @@
 ghost use Rattle.std.specs.Prelude.{◌≡◌, ◌≤◌, IfOk, length, take, string_bytes};
 ghost use Rattle.oxml_base.specs.LineColumn.{line_behind, column_behind};
 ghost use Rattle.oxml_driver.specs.Build.{most_bytes};
-ghost use Rattle.oxml_driver.specs.Lines.{bytes_limit_line, limit_line, placed_line, read_fault_line, refusal_line, tokens_limit_line};
+ghost use Rattle.oxml_driver.specs.Lines.{bytes_limit_line, captures_limit_line, limit_line, placed_line, read_fault_line, refusal_line, tokens_limit_line};
 
 use oxml_base::{Limit, Refusal, line_col};
 use std::alloc::{AllocError, Global};
@@ -35,12 +35,20 @@ pub fn tokens_limit_line(alloc: Global, file: &str) -> Result<String, AllocError
     format!(in alloc; "{file}: limit tokens 200001\n")
 }
 
+/// The line of a source whose functions have too many captures.
+pub fn captures_limit_line(alloc: Global, file: &str) -> Result<String, AllocError>
+    ensures { IfOk result (λ line. string_bytes line ≡ captures_limit_line file.now) }
+{
+    format!(in alloc; "{file}: limit captures 100001\n")
+}
+
 /// The line of a limit that a source passes.
 pub fn limit_line(alloc: Global, file: &str, limit: Limit) -> Result<String, AllocError>
     ensures { IfOk result (λ line. string_bytes line ≡ limit_line file.now limit) }
 {
     match limit {
         Limit::Tokens(_) => tokens_limit_line(alloc, file),
+        Limit::Captures(_) => captures_limit_line(alloc, file),
         _ => bytes_limit_line(alloc, file),
     }
 }

@@ -1,11 +1,14 @@
 //! The compiler as a whole: from the words of a command to the image that runs.
 #![tactic(auto)]
 
+mod built_in;
 mod command;
 mod compile;
+mod declarations;
 mod form;
 mod front;
 mod lines;
+mod names;
 mod printer;
 #[cfg(test)]
 mod tests;

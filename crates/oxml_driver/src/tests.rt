@@ -132,7 +132,7 @@ fn refused(rule: Rule, start: u32, end: u32) -> Option<CompileErr> {
 
 #[test]
 fn the_first_refusal_in_order_is_named(rt: HostRuntime) -> Result<(), Fail> {
-    let cases: [(&[u8], Rule, u32, u32); 26] = [
+    let cases: [(&[u8], Rule, u32, u32); 36] = [
         // lexical faults come before all others
         (b"let () = () (* cut", Rule::OpenComment, 12, 14),
         (
@@ -150,6 +150,24 @@ fn the_first_refusal_in_order_is_named(rt: HostRuntime) -> Result<(), Fail> {
         (b"let () = print_int 1 let", Rule::Syntax, 24, 24),
         (b"let () = print_int 1 )", Rule::Syntax, 21, 22),
         (b"print_string \"a\"", Rule::Syntax, 0, 12),
+        (b"let () = print_strinG \"a\" let", Rule::Syntax, 29, 29),
+        // then names: the first by its place
+        (b"let () = print_strinG \"a\"", Rule::UnboundValue, 9, 21),
+        (b"let () = x let () = y", Rule::UnboundValue, 9, 10),
+        (
+            b"let () = print_int 1 type t = u",
+            Rule::UnboundType,
+            30,
+            31,
+        ),
+        (b"let f () = C", Rule::UnboundConstructor, 11, 12),
+        (b"let f (x, x) = x", Rule::BoundTwice, 10, 11),
+        (b"type t = u let () = x", Rule::UnboundType, 9, 10),
+        // then declarations
+        (b"type 'a t = C type u = t", Rule::ArgumentCount, 23, 24),
+        (b"type t = 'a", Rule::UnboundVariable, 9, 11),
+        (b"type t = C type t = D", Rule::DeclaredTwice, 16, 17),
+        (b"type t = t", Rule::CyclicAbbreviation, 5, 6),
         // then the first item of the file that is not built
         (b"let () = print_int 1", Rule::LeftOut, 0, 20),
         (
@@ -170,7 +188,7 @@ fn the_first_refusal_in_order_is_named(rt: HostRuntime) -> Result<(), Fail> {
         (b"let () : unit = print_string \"a\"", Rule::LeftOut, 0, 32),
         (b"let f () = print_string \"a\"", Rule::LeftOut, 0, 27),
         (b"let _ = print_string \"a\"", Rule::LeftOut, 0, 24),
-        (b"let rec () = print_string \"a\"", Rule::LeftOut, 0, 29),
+        (b"let rec () = print_string \"a\"", Rule::LeftOut, 8, 10),
         (
             b"let () = print_string \"a\" and () = ()",
             Rule::LeftOut,
@@ -178,7 +196,6 @@ fn the_first_refusal_in_order_is_named(rt: HostRuntime) -> Result<(), Fail> {
             37,
         ),
         (b"let () = print_string \"a\" \"b\"", Rule::LeftOut, 0, 29),
-        (b"let () = print_strinG \"a\"", Rule::LeftOut, 0, 25),
         (b"let () = prerr_string \"a\"", Rule::LeftOut, 0, 25),
         (b"let () = print_string 'a'", Rule::LeftOut, 0, 25),
         (b"let () = print_string", Rule::LeftOut, 0, 21),
@@ -260,6 +277,44 @@ fn limits_are_named_before_what_stands_behind_them(rt: HostRuntime) -> Result<()
     Ok(())
 }
 
+/// The elements `a0; a1; .. a999`.
+fn thousand_names(alloc: Global) -> Result<Vec<u8>, Fail> {
+    let mut names = Vec::new(alloc);
+    for number in 0..1_000u32 {
+        let name = format!(in alloc; "a{number};")?;
+        names.extend_from_slice(name.as_bytes())?;
+    }
+    Ok(names)
+}
+
+/// A source with so many functions, one in the other, that each capture 1,000 names.
+fn capturing(alloc: Global, functions: usize) -> Result<Vec<u8>, Fail> {
+    let names = thousand_names(alloc)?;
+    let mut source = b"let f l = match l with [".to_vec(alloc)?;
+    source.extend_from_slice(names.as_slice())?;
+    source.extend_from_slice(b"] -> ")?;
+    source.extend_from_slice(repeated(alloc, b"fun _ -> ", functions)?.as_slice())?;
+    source.push(b'[')?;
+    source.extend_from_slice(names.as_slice())?;
+    source.push(b']')?;
+    Ok(source)
+}
+
+#[test]
+fn captures_are_counted_up_to_the_limit(rt: HostRuntime) -> Result<(), Fail> {
+    let alloc = rt.alloc();
+    let most = capturing(alloc, 100)?;
+    match compile(alloc, most.as_slice(), SMALL) {
+        Err(CompileErr::Refused(refusal)) => assert_eq!(rt; refusal.rule, Rule::LeftOut),
+        _ => panic!(rt; "a source within the limit is not read"),
+    }
+    let over = capturing(alloc, 101)?;
+    let error = compile(alloc, over.as_slice(), SMALL).err();
+    let limit = Limit::Captures(100_001);
+    assert_eq!(rt; error, Some(CompileErr::Limit(limit, None)));
+    Ok(())
+}
+
 #[test]
 fn many_items_are_compiled(rt: HostRuntime) -> Result<(), Fail> {
     let alloc = rt.alloc();
@@ -306,7 +361,7 @@ struct Case<'a> {
 
 const USAGE: &[u8] = b"usage: oxml build|check|run|sim|places|sample|sample-build\n";
 
-const CASES: [Case<'static>; 16] = [
+const CASES: [Case<'static>; 18] = [
     Case {
         words: &["build", "hi.ml", "-o", "hi"],
         fail: (&[], &[]),
@@ -344,10 +399,22 @@ const CASES: [Case<'static>; 16] = [
         err: b"cut.ml:2:9: rule 10: syntax\n",
     },
     Case {
+        words: &["build", "unbound.ml", "-o", "a"],
+        fail: (&[], &[]),
+        status: 1,
+        err: b"unbound.ml:2:1: rule 20: unbound value\n",
+    },
+    Case {
         words: &["build", "tokens.ml", "-o", "a"],
         fail: (&[], &[]),
         status: 5,
         err: b"tokens.ml: limit tokens 200001\n",
+    },
+    Case {
+        words: &["build", "captures.ml", "-o", "a"],
+        fail: (&[], &[]),
+        status: 5,
+        err: b"captures.ml: limit captures 100001\n",
     },
     Case {
         words: &["build", "a.ml", "-o", "a"],
@@ -410,6 +477,7 @@ fn each_status_has_its_line(rt: HostRuntime) -> Result<(), Fail> {
     let alloc = rt.alloc();
     let long = vec![in alloc; b' '; 1_048_577]?;
     let tokens = repeated(alloc, b";;", 200_001)?;
+    let captures = capturing(alloc, 101)?;
     for case in CASES {
         let mut shelf = MemShelf::new(alloc, case.fail.0.to_vec(alloc)?);
         shelf.hold("hi.ml", HI)?;
@@ -419,6 +487,8 @@ fn each_status_has_its_line(rt: HostRuntime) -> Result<(), Fail> {
         shelf.hold("cut.ml", b"let f x =\n  x (1 +")?;
         shelf.hold("long.ml", long.as_slice())?;
         shelf.hold("tokens.ml", tokens.as_slice())?;
+        shelf.hold("unbound.ml", b"let f () =\nx")?;
+        shelf.hold("captures.ml", captures.as_slice())?;
         let mut out = MemSink::new(alloc, 100, vec![in alloc]?)?;
         let mut err = MemSink::new(alloc, 100, case.fail.1.to_vec(alloc)?)?;
         let status = oxml(alloc, case.words, &mut shelf, &mut out, &mut err);
