@@ -1,0 +1,6 @@
+//! When values fit patterns, and what the names of the patterns then stand for.
+#![tactic(auto)]
+
+mod pattern;
+
+pub use pattern::{fit_binds, fit_params, fits};

@@ -1,0 +1,3 @@
+mod maker;
+mod programs;
+mod rows;
