@@ -16,10 +16,12 @@ drop_here : (bytes : List ℕ) (i : ℕ) → i < length bytes → drop i bytes �
 drop_here bytes i lt = rw add-one (drop-cons bytes i 0 lt)
 
 pub puts_step : (channel : ℕ) (bytes : List ℕ) (i : ℕ) (before now after : List Event) → i < length bytes → after ≡ now ++ Put channel (get_or bytes i 0) ∷ [] → Puts channel bytes i before now → Puts channel bytes (i + 1) before after
-puts_step channel bytes i before now after lt e g = record { so_far =
-  ap (λ es. es ++ puts channel (drop (i + 1) bytes)) e
-  ∙ (append_assoc now (Put channel (get_or bytes i 0) ∷ []) (puts channel (drop (i + 1) bytes))
-  ∙ (ap (λ bs. now ++ puts channel bs) (sym (drop_here bytes i lt)) ∙ g.so_far)) }
+puts_step channel bytes i before now after lt e g = record {
+  so_far =
+      ap (λ es. es ++ puts channel (drop (i + 1) bytes)) e
+      ∙ (append_assoc now (Put channel (get_or bytes i 0) ∷ []) (puts channel (drop (i + 1) bytes))
+      ∙ (ap (λ bs. now ++ puts channel bs) (sym (drop_here bytes i lt)) ∙ g.so_far));
+}
 
 pub puts_end : (channel : ℕ) (bytes : List ℕ) (i : ℕ) (before now : List Event) → length bytes ≤ i → Puts channel bytes i before now → now ≡ before ++ puts channel bytes
 puts_end channel bytes i before now le g =

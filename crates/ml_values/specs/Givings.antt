@@ -8,8 +8,8 @@ use Rattle.ml_meaning.specs.Names.{References}
 use Rattle.ml_meaning.specs.Functions.{FunctionCode}
 use Rattle.ml_meaning.specs.Runs.{Run, Done, Stop, Ended, after}
 use Rattle.ml_meaning.specs.Tellings.{Setting}
-use Rattle.ml_values.specs.declared.operate.Given.{Given}
-use Rattle.ml_values.specs.declared.operate.Given.TheVariants as given
+use Rattle.ml_values.specs.declared.operations.Given.{Given}
+use Rattle.ml_values.specs.declared.operations.Given.TheVariants as given
 use Rattle.ml_values.specs.Shown.{value}
 
 -- in each setting that tells the events as they are, whatever else it has

@@ -7,8 +7,8 @@ use Rattle.ml_values.specs.declared.value.Word.TheOpen as w
 use Rattle.ml_values.specs.declared.value.Word.TheOpen.{Word-F, Words-F, Pair-F}
 use Rattle.ml_values.specs.declared.value.Env.{Env, fold-Env}
 use Rattle.ml_values.specs.declared.value.Bound.{Bound, fold-Bound}
-use Rattle.ml_values.specs.declared.value.Bound.TheOpen as n
-use Rattle.ml_values.specs.declared.value.Bound.TheOpen.{Env-F, Bound-F}
+use Rattle.ml_values.specs.declared.value.Env.TheOpen as n
+use Rattle.ml_values.specs.declared.value.Env.TheOpen.{Env-F, Bound-F}
 use Rattle.ml_values.specs.declared.value.Code.{Code}
 use Rattle.ml_values.specs.declared.value.Code.TheVariants as code
 use Rattle.ml_meaning.specs.Values as v

@@ -106,16 +106,15 @@ pub fn word_at<'a>(words: Words<'a>, at: u32) -> Option<Word<'a>>
     ensures { option_map value result ≡ slice_get (values_list words.entry) at }
 {
     let mut rest = words;
-    for _ in 0..at {
-        match rest {
-            Words::And(pair) => rest = pair.rest,
-            Words::Empty => return None,
+    let mut left = at;
+    while let Words::And(pair) = rest {
+        if left == 0 {
+            return Some(pair.first);
         }
+        left -= 1;
+        rest = pair.rest;
     }
-    match rest {
-        Words::And(pair) => Some(pair.first),
-        Words::Empty => None,
-    }
+    None
 }
 
 /// The value of a local name, the latest where it stands several times.

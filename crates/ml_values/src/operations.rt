@@ -32,14 +32,14 @@ pub enum Given<'a> {
 pub fn truth<'a>(test: bool) -> Word<'a>
     ensures { value result ≡ truth test }
 {
-    if test { Word::Constant(1) } else { Word::Constant(0) }
+    if test {
+        Word::Constant(1)
+    } else {
+        Word::Constant(0)
+    }
 }
 
-fn written<'a>(
-    told: &mut Vec<Event>,
-    channel: u8,
-    bytes: &[u8],
-) -> Result<Given<'a>, NoMemory>
+fn written<'a>(told: &mut Vec<Event>, channel: u8, bytes: &[u8]) -> Result<Given<'a>, NoMemory>
     ensures { Gives told.old.items told.new.items result (Done (puts channel bytes.now) v.unit_value) }
 {
     put_all(told, channel, bytes)?;
