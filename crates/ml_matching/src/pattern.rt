@@ -84,7 +84,7 @@ pub fn fits<'a>(
     word: Word<'a>,
     env: Env<'a>,
 ) -> Result<Option<Env<'a>>, NoMemory>
-    ensures { Finds result (p.fits (targets tools.scoped.now) pat.now (value word.entry)) (names env.entry) }
+    ensures { Finds result (p.fits (targets tools.entry.scoped.now) pat.now (value word.entry)) (names env.entry) }
 {
     match &pat.kind {
         PatKind::Any => Ok(Some(env)),
@@ -250,7 +250,7 @@ pub fn fit_params<'a>(
     words: Words<'a>,
     env: Env<'a>,
 ) -> Result<Option<Env<'a>>, NoMemory>
-    ensures { Finds result (p.all_fit (param_fits (targets tools.scoped.now) params.now) (values_list words.entry)) (names env.entry) }
+    ensures { Finds result (p.all_fit (param_fits (targets tools.entry.scoped.now) params.now) (values_list words.entry)) (names env.entry) }
 {
     let mut rest = words;
     let mut env = env;
@@ -277,7 +277,7 @@ pub fn fit_binds<'a>(
     words: Words<'a>,
     env: Env<'a>,
 ) -> Result<Option<Env<'a>>, NoMemory>
-    ensures { Finds result (p.all_fit (bind_fits (targets tools.scoped.now) binds.now) (values_list words.entry)) (names env.entry) }
+    ensures { Finds result (p.all_fit (bind_fits (targets tools.entry.scoped.now) binds.now) (values_list words.entry)) (names env.entry) }
 {
     let mut rest = words;
     let mut env = env;

@@ -1,0 +1,183 @@
+//! Evaluates an item: what its bindings bind, and the names that are bound.
+ghost use Rattle.std.specs.Prelude.{◌≡◌, ◌++◌, IfOk, OnOk};
+ghost use Rattle.ml_meaning.specs.declared.event.Event.{Event};
+ghost use Rattle.ml_meaning.specs.Patterns.{Env as Bindings};
+ghost use Rattle.ml_meaning.specs.Programs as m;
+ghost use Rattle.ml_values.specs.Shown.{names};
+ghost use Rattle.ml_steps.specs.Worlds.{setting_of};
+ghost use Rattle.ml_run.specs.Stack.{Began, Tells, matched_run, several_run, values_run};
+ghost use Rattle.ml_run.specs.Whole.{Holds};
+
+use crate::evaluate::{Evaluated, evaluate};
+use ml_functions::weighed_binds;
+use ml_matching::fit_binds;
+use ml_meaning::{Ending, Event};
+use ml_steps::{Here, Next, World};
+use ml_tree::{Bind, ItemKind};
+use ml_values::{Env, Failure, Mode, Word, Words, and, fail};
+use oxml_base::NoMemory;
+use std::alloc::Global;
+
+/// How the evaluation of several expressions ends.
+#[derive(Clone, Copy)]
+pub enum Several<'a> {
+    Values(Words<'a>),
+    End(Ending),
+}
+
+/// How the evaluation of an item ends: with names that are bound, or with the program.
+#[derive(Clone, Copy)]
+pub enum Matched<'a> {
+    Names(Env<'a>),
+    End(Ending),
+}
+
+/// What is evaluated for a binding; one with parameters is a function.
+fn bound_next<'a>(bind: &'a Bind, fuel: u64) -> Next<'a> {
+    let here = Here {
+        mode: Mode::Inner,
+        env: Env::Nothing,
+        fuel,
+    };
+    if bind.params.len() == 0 {
+        return Next::Visit(&bind.body, here);
+    }
+    Next::Close(bind.pat.id, here)
+}
+
+/// Evaluates what the bindings of an item bind, right to left.
+fn item_words<'t, 'a>(
+    world: World<'t, 'a>,
+    out: &mut Vec<Event>,
+    binds: &'a [Bind],
+    fuel: u64,
+) -> Result<Several<'a>, NoMemory>
+    ensures ended { IfOk result (λ words. Tells out.old.items out.new.items (values_run (setting_of world.entry) binds.entry.now fuel) (several_run words)) }
+    ensures out { Began out.old.items out.new.items (values_run (setting_of world.entry) binds.entry.now fuel) }
+{
+    let mut words = Words::Empty;
+    for bind in binds.iter().rev() {
+        match evaluate(world, out, bound_next(bind, fuel))? {
+            Evaluated::Value(word) => words = and(world.tools.bump, word, words)?,
+            Evaluated::End(ending) => return Ok(Several::End(ending)),
+        }
+    }
+    Ok(Several::Values(words))
+}
+
+/// The values of an item are matched with its patterns, left to right.
+fn match_words<'t, 'a>(
+    world: World<'t, 'a>,
+    out: &mut Vec<Event>,
+    binds: &'a [Bind],
+    words: Words<'a>,
+) -> Result<Matched<'a>, NoMemory> {
+    match fit_binds(world.tools, binds, words, Env::Nothing)? {
+        Some(names) => Ok(Matched::Names(names)),
+        None => {
+            let mut told = Vec::new(world.tools.alloc);
+            let ending = fail(&mut told, Failure::NoMatch)?;
+            out.extend_from_slice(told.as_slice())?;
+            Ok(Matched::End(ending))
+        }
+    }
+}
+
+/// Evaluates what an item binds, right to left, and matches it left to right.
+fn item_names<'t, 'a>(
+    world: World<'t, 'a>,
+    out: &mut Vec<Event>,
+    kind: &'a ItemKind,
+    fuel: u64,
+) -> Result<Matched<'a>, NoMemory>
+    ensures ended { IfOk result (λ names. Tells out.old.items out.new.items (m.item_run Event (setting_of world.entry) fuel kind.entry.now) (matched_run names)) }
+    ensures out { Began out.old.items out.new.items (m.item_run Event (setting_of world.entry) fuel kind.entry.now) }
+{
+    match kind {
+        ItemKind::Types(_) => Ok(Matched::Names(Env::Nothing)),
+        ItemKind::Let {
+            recursive: _,
+            binds,
+        } => match item_words(world, out, binds.as_slice(), fuel)? {
+            Several::Values(words) => match_words(world, out, binds.as_slice(), words),
+            Several::End(ending) => Ok(Matched::End(ending)),
+        },
+    }
+}
+
+/// The weight of an item; an item of types has no nodes.
+fn item_weight(kind: &ItemKind) -> Result<u64, NoMemory>
+    ensures { IfOk result (λ words. words ≡ m.item_weight Event kind.now) }
+{
+    match kind {
+        ItemKind::Types(_) => Ok(64),
+        ItemKind::Let {
+            recursive: _,
+            binds,
+        } => weighed_binds(binds.as_slice()),
+    }
+}
+
+/// Evaluates an item.
+pub fn run_item<'t, 'a>(
+    world: World<'t, 'a>,
+    out: &mut Vec<Event>,
+    kind: &'a ItemKind,
+    fuel: u64,
+) -> Result<Matched<'a>, NoMemory>
+    ensures ended { IfOk result (λ names. Tells out.old.items out.new.items (m.item_evaluated Event (setting_of world.entry) fuel kind.entry.now) (matched_run names)) }
+    ensures out { Began out.old.items out.new.items (m.item_evaluated Event (setting_of world.entry) fuel kind.entry.now) }
+{
+    let weight = item_weight(kind)?;
+    out.push(Event::Enter { weight })?;
+    out.push(Event::Open)?;
+    match item_names(world, out, kind, fuel)? {
+        Matched::Names(names) => {
+            out.push(Event::Close)?;
+            out.push(Event::Leave { weight })?;
+            Ok(Matched::Names(names))
+        }
+        Matched::End(ending) => Ok(Matched::End(ending)),
+    }
+}
+
+/// A name with its value.
+#[derive(Clone, Copy)]
+struct Top<'a> {
+    name: u32,
+    word: Word<'a>,
+}
+
+/// The top-level names take their values, the latest where a name stands several times.
+pub fn set_tops<'a>(
+    alloc: Global,
+    tops: &mut [Option<Word<'a>>],
+    env: Env<'a>,
+) -> Result<(), NoMemory>
+    ensures { (before : Bindings) → Holds tops.old before → OnOk result (Holds tops.new (names env.entry ++ before)) }
+{
+    let mut list = Vec::new(alloc);
+    let mut rest = env;
+    while let Env::And(bound) = rest {
+        list.push(Top {
+            name: bound.name,
+            word: bound.word,
+        })?;
+        rest = bound.rest;
+    }
+    for top in list.as_slice().iter().rev() {
+        set_top(tops, *top)?;
+    }
+    Ok(())
+}
+
+/// A top-level name takes its value.
+fn set_top<'a>(tops: &mut [Option<Word<'a>>], top: Top<'a>) -> Result<(), NoMemory> {
+    match tops.get_mut(top.name as usize) {
+        Some(slot) => {
+            *slot = Some(top.word);
+            Ok(())
+        }
+        None => Err(NoMemory),
+    }
+}

@@ -1,3 +1,0 @@
-mod maker;
-mod programs;
-mod rows;
