@@ -50,17 +50,17 @@ fn before<'t, 'a>(
 
 /// The first values of a list, and those behind them.
 #[derive(Clone, Copy)]
-struct Split<'a> {
-    first: Words<'a>,
-    rest: Words<'a>,
+pub struct Halves<'a> {
+    pub first: Words<'a>,
+    pub rest: Words<'a>,
 }
 
 /// A list of values after so many of them.
-fn split<'t, 'a>(
+pub fn split<'t, 'a>(
     world: World<'t, 'a>,
     words: Words<'a>,
     at: u64,
-) -> Result<Split<'a>, NoMemory>
+) -> Result<Halves<'a>, NoMemory>
     ensures parts { IfOk result (λ both. values_list both.first ++ values_list both.rest ≡ values_list words.entry) }
     ensures first { IfOk result (λ both. length (values_list both.first) ≡ at) }
 {
@@ -76,7 +76,7 @@ fn split<'t, 'a>(
         }
     }
     let first = before(world, list.as_slice(), Words::Empty)?;
-    Ok(Split { first, rest })
+    Ok(Halves { first, rest })
 }
 
 /// A function is applied to arguments where it stands: in tail position the region is closed before.

@@ -11,6 +11,7 @@ mod resumes;
 mod visits;
 mod world;
 
+pub use arms::choose;
 pub use closures::closure;
 pub use frame::{Finish, Frame, Here, Next, Parts, Step, Then};
 pub use resumes::resume;
