@@ -73,3 +73,10 @@ module _ (s : Setting Event) where
   -- a step that goes on as what is done next does
   pub step_next : (before now : List Event) (step : Step) (next : Next) (run : Run Event Value) → after before run ≡ after now (next_run s next) → step_run s step ≡ next_run s next → after before run ≡ after now (step_run s step)
   step_next before now step next run h same = h ∙ ap (after now) (sym same)
+
+  -- a step that does more with the value of what is done next
+  pub step_then : (before now : List Event) (step : Step) (next : Next) (run : Run Event Value) (more : Value → Run Event Value) → after before run ≡ after now (next_run s next) → step_run s step ≡ next_run s next >>= more → after before (run >>= more) ≡ after now (step_run s step)
+  step_then before now step next run more h same =
+      sym (bind-after before run more)
+      ∙ (ap (λ r. r >>= more) h
+      ∙ (bind-after now (next_run s next) more ∙ ap (after now) (sym same)))
