@@ -1,8 +1,8 @@
 -- Lists of values that are built from their end, and names that are bound one after the other.
-use Rattle.std.proofs.Common.{◌≡◌, Bor, ℕ, suc, ◌+◌, ◌<◌, ◌≤◌, List, [], ◌∷◌, ◌++◌, map, length, get_or, drop, Option, Some, None, refl, sym, ap, ap₂, ◌∙◌, append_assoc, add-one, drop-cons}
+use Rattle.std.proofs.Common.{◌≡◌, Bor, ℕ, suc, ◌+◌, ◌<◌, ◌≤◌, List, [], ◌∷◌, ◌++◌, map, length, get_or, drop, Option, Some, None, Result, Ok, Err, IfOk, refl, sym, ap, ap₂, ◌∙◌, append_assoc, add-one, drop-cons}
 use Rattle.std.specs.List.{push}
 use Rattle.std.specs.Option.{option_map}
-use Rattle.std.proofs.lemmas.List.{append-nil, drop_all, map-append}
+use Rattle.std.proofs.lemmas.List.{append-nil, drop_all, length-map, map-append}
 use Rattle.ml_meaning.specs.declared.event.Event.{Event}
 use Rattle.ml_meaning.specs.Evaluation as m
 use Rattle.ml_meaning.specs.Names.{lookup}
@@ -12,7 +12,9 @@ use Rattle.ml_meaning.specs.Tellings.{Setting}
 use Rattle.ml_meaning.specs.Values.{Value, Values, no_values, value_and, packed, listed}
 use Rattle.ml_values.specs.declared.value.Pair.{Pair, out-Pair}
 use Rattle.ml_values.specs.declared.value.Word.{Word}
-use Rattle.ml_values.specs.declared.value.Words.{Words}
+use Rattle.ml_values.specs.declared.value.Word.TheOpen as w
+use Rattle.ml_values.specs.declared.value.Word.TheOpen.{Words-F}
+use Rattle.ml_values.specs.declared.value.Words.{Words, out-Words, roll-Words, roll-out-Words}
 use Rattle.ml_values.specs.declared.value.Words.TheVariants as L
 use Rattle.ml_values.specs.Shown.{value, values_list}
 use Rattle.ml_values.proofs.Walks.{list_end, list_more}
@@ -113,8 +115,27 @@ takes_step taken more rest r whole is longer g =
           ∙ (ap (λ us. map value taken ++ us) (sym (list_more rest r is)) ∙ g.so_far)));
     }
 
-pub takes_end : (taken : List Word) (rest : Words) (whole : List Value) → rest ≡ L.Empty → Takes taken rest whole → map value taken ≡ whole
-takes_end taken rest whole is g = sym (append-nil (map value taken)) ∙ (ap (λ us. map value taken ++ us) (sym (list_end rest is)) ∙ g.so_far)
+-- a list that begins with no value has none
+none_at : (rest : Words) → ((r : Bor Pair) → rest ≡ L.And r → ⊥) → (l : Words-F Word Words Pair) → roll-Words l ≡ rest → values_list rest ≡ []
+none_at rest other w.Empty is = list_end rest (sym is ∙ L.rolls-Empty)
+none_at rest other (w.And r) is = absurd (other r (sym is ∙ L.rolls-And r))
+
+pub none_left : (rest : Words) → ((r : Bor Pair) → rest ≡ L.And r → ⊥) → values_list rest ≡ []
+none_left rest other = none_at rest other (out-Words rest) (roll-out-Words rest)
+
+pub takes_end : (taken : List Word) (rest : Words) (all whole : List Value) → ((r : Bor Pair) → rest ≡ L.And r → ⊥) → Takes taken rest whole → all ≡ map value taken → all ≡ whole
+takes_end taken rest all whole ended g is =
+    is ∙ (sym (append-nil (map value taken)) ∙ (ap (λ us. map value taken ++ us) (sym (none_left rest ended)) ∙ g.so_far))
+
+-- the values that were taken, as a list of their own
+taken_alone : (taken : List Word) (first : List Value) → first ≡ map value taken ++ values_list L.Empty → first ≡ map value taken
+taken_alone taken first is = is ∙ (ap (λ us. map value taken ++ us) (list_end L.Empty refl) ∙ append-nil (map value taken))
+
+pub takes_parts : (taken : List Word) (rest : Words) (first whole : List Value) → first ≡ map value taken ++ values_list L.Empty → Takes taken rest whole → first ++ values_list rest ≡ whole
+takes_parts taken rest first whole is g = ap (λ us. us ++ values_list rest) (taken_alone taken first is) ∙ g.so_far
+
+pub takes_length : (taken : List Word) (first : List Value) (n : ℕ) → first ≡ map value taken ++ values_list L.Empty → length taken ≡ n → length first ≡ n
+takes_length taken first n is many = ap length (taken_alone taken first is) ∙ (length-map taken value ∙ many)
 
 -- the words that are left, before these values, are all
 pub record Befores (left : List Word) (vs whole : List Value) : Type 0 where
@@ -135,3 +156,7 @@ befores_step left rest w vs more whole is longer g = record {
 pub befores_end : (left : List Word) (vs whole : List Value) → length left ≡ 0 → Befores left vs whole → vs ≡ whole
 befores_end [] vs whole none g = g.so_far
 befores_end (w ∷ ws) vs whole none g = cc
+
+pub joined_as : {F : Type 0} (r : Result Words F) (one first second : List Value) → one ≡ first → IfOk r (λ words. values_list words ≡ one ++ second) → IfOk r (λ words. values_list words ≡ first ++ second)
+joined_as (Ok words) one first second same is = is ∙ ap (λ us. us ++ second) same
+joined_as (Err e) one first second same is = tt

@@ -1,5 +1,6 @@
 -- The arms of a match: those that are passed over, and the one that is taken.
 use Rattle.std.proofs.Common.{◌≡◌, ℕ, suc, ◌+◌, ◌<◌, ◌≤◌, List, [], ◌∷◌, ◌++◌, map, length, get_or, drop, Option, Some, None, refl, sym, ap, ◌∙◌, add-one, drop-cons}
+use Rattle.std.specs.Option.{option_map}
 use Rattle.std.proofs.lemmas.List.{drop_all}
 use Rattle.ml_tree.specs.declared.expr.Arm.{Arm, out-Arm}
 use Rattle.ml_matching.specs.Fitting.{onto}
@@ -16,6 +17,11 @@ use Rattle.ml_values.specs.Shown.{names}
 use Rattle.ml_steps.specs.declared.frame.Here.{Here}
 use Rattle.ml_steps.specs.Left.{choose_run, taken_run}
 use Rattle.ml_steps.proofs.Trees.{arm-fits}
+
+-- what is no match
+pub none_found : (found : Option Env) → ((env : Env) → found ≡ Some env → ⊥) → option_map names found ≡ None
+none_found None other = refl
+none_found (Some env) other = absurd (other env refl)
 
 module _ (s : Setting Event) where
   passed : (a : ArmMeaning Event) (c : Call Event) (mode : Mode) (env : p.Env) (rest : Run Event Value) (found : Option p.Env) → None ≡ onto env found → m.taken Event s a c mode env rest found ≡ rest

@@ -57,6 +57,12 @@ module _ {F : Type 0} (s : Setting Event) where
   nexts_since before told now (Ok next) es run is h = after-after before es run ∙ (ap (λ l. after l run) (sym is) ∙ h)
   nexts_since before told now (Err e) es run is h = tt
 
+  -- the same run up to here, and then more with its value
+  pub nexts_bind : (before told now : List Event) (r : Result Next F) (run other : Run Event Value) (more : Value → Run Event Value) → after before run ≡ after told other → Nexts s told now r (other >>= more) → Nexts s before now r (run >>= more)
+  nexts_bind before told now (Ok next) run other more so_far h =
+      sym (bind-after before run more) ∙ (ap (λ r. r >>= more) so_far ∙ (bind-after told other more ∙ h))
+  nexts_bind before told now (Err e) run other more so_far h = tt
+
   pub steps_as : (before now : List Event) (r : Result Step F) (run other : Run Event Value) → other ≡ run → Steps s before now r run → Steps s before now r other
   steps_as before now (Ok step) run other same h = ap (after before) same ∙ h
   steps_as before now (Err e) run other same h = tt
