@@ -1,5 +1,5 @@
 -- How what was told and given makes a run of the meaning.
-use Rattle.std.proofs.Common.{◌≡◌, ℕ, ℤ, pos, List, [], ◌∷◌, ◌++◌, Option, Some, None, Result, Ok, Err, IfOk, sym, ap, ap₂, refl, subst, ◌∙◌}
+use Rattle.std.proofs.Common.{◌≡◌, ℕ, ℤ, pos, List, [], ◌∷◌, ◌++◌, Option, None, Result, Ok, Err, IfOk, sym, ap, ap₂, refl, ◌∙◌}
 use Rattle.std.proofs.lemmas.List.{append-nil}
 use Rattle.ml_tree.specs.declared.expr.BinOp.{BinOp}
 use Rattle.ml_tree.specs.declared.expr.BinOp.TheVariants.{Sub}
@@ -9,9 +9,9 @@ use Rattle.ml_meaning.specs.declared.event.Ending.TheVariants.{Exit}
 use Rattle.ml_meaning.specs.Arithmetic.{arithmetic}
 use Rattle.ml_meaning.specs.Functions.{FunctionCode}
 use Rattle.ml_meaning.specs.Names.{References}
-use Rattle.ml_meaning.specs.Operations.{character_or_fail, computed, negated, number_or_fail}
+use Rattle.ml_meaning.specs.Operations.{computed, negated, number_or_fail}
 use Rattle.ml_meaning.specs.Runs.{Run, Stop, Ended, after}
-use Rattle.ml_meaning.specs.Tellings.{Setting, failure_line, fail, ByZero, Invalid}
+use Rattle.ml_meaning.specs.Tellings.{Setting, failure_line, ByZero}
 use Rattle.ml_meaning.specs.Values as v
 use Rattle.ml_meaning.specs.Values.{Value}
 use Rattle.ml_values.specs.declared.operations.Given.{Given}

@@ -1,4 +1,4 @@
-use Rattle.std.proofs.Common.{rules, ◌≡◌, to_z, of_z, w64, None, ap₂, ◌∙◌}
+use Rattle.std.proofs.Common.{rules, ◌≡◌, to_z, of_z, w64, ap₂, ◌∙◌}
 use Rattle.ml_meaning.specs.Arithmetic.{arithmetic}
 use Rattle.ml_values.proofs.Runs.{divided_by_zero}
 use Rattle.ml_values.proofs.operations.computed.Goals as goal
