@@ -3,5 +3,7 @@
 
 mod parts;
 mod pattern;
+#[cfg(test)]
+mod tests;
 
 pub use pattern::{fit_binds, fit_params, fits};
