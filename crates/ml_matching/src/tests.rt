@@ -72,6 +72,50 @@ fn has_both(found: Option<Env>) -> bool {
         && matches!(local(env, 2), Some(Word::Character(b'a')))
 }
 
+fn by_pattern<'a>(tools: Tools<'a>, words: Words<'a>) -> Result<Option<Env<'a>>, NoMemory> {
+    let pat = pair(tools.alloc)?;
+    fits(tools, &pat, Word::Block(0, words), Env::Nothing)
+}
+
+fn by_params<'a>(tools: Tools<'a>, words: Words<'a>) -> Result<Option<Env<'a>>, NoMemory> {
+    let list = params(tools.alloc)?;
+    fit_params(tools, list.as_slice(), words, Env::Nothing)
+}
+
+fn by_binds<'a>(tools: Tools<'a>, words: Words<'a>) -> Result<Option<Env<'a>>, NoMemory> {
+    let list = binds(tools.alloc)?;
+    fit_binds(tools, list.as_slice(), words, Env::Nothing)
+}
+
+/// Whether two values give two names by each way.
+fn two_fit<'a>(tools: Tools<'a>, words: Words<'a>) -> Result<bool, NoMemory> {
+    let pattern = has_both(by_pattern(tools, words)?);
+    let params = has_both(by_params(tools, words)?);
+    let binds = has_both(by_binds(tools, words)?);
+    Ok(pattern && params && binds)
+}
+
+/// Whether these values fit by no way.
+fn none_fits<'a>(tools: Tools<'a>, words: Words<'a>) -> Result<bool, NoMemory> {
+    let pattern = by_pattern(tools, words)?.is_none();
+    let params = by_params(tools, words)?.is_none();
+    let binds = by_binds(tools, words)?.is_none();
+    Ok(pattern && params && binds)
+}
+
+fn tried<'a>(alloc: Global, bump: &'a Bump, scoped: &'a Scoped) -> Result<bool, NoMemory> {
+    let tools: Tools<'a> = Tools {
+        alloc,
+        bump,
+        scoped,
+    };
+    let one: Words<'a> = and(bump, Word::Character(b'a'), Words::Empty)?;
+    let two: Words<'a> = and(bump, Word::Number(7), one)?;
+    let fitting = two_fit(tools, two)?;
+    let short = none_fits(tools, one)?;
+    Ok(fitting && short)
+}
+
 #[test]
 fn two_names(rt: HostRuntime) -> Result<(), Fail> {
     let alloc = rt.alloc();
@@ -82,21 +126,6 @@ fn two_names(rt: HostRuntime) -> Result<(), Fail> {
     };
     let s = Scoped::new(program, Items::new(alloc), Items::new(alloc));
     let bump = Bump::new(alloc);
-    let tools = Tools {
-        alloc,
-        bump: &bump,
-        scoped: &s,
-    };
-    let one = and(&bump, Word::Character(b'a'), Words::Empty)?;
-    let two = and(&bump, Word::Number(7), one)?;
-    let pat = pair(alloc)?;
-    let params = params(alloc)?;
-    let binds = binds(alloc)?;
-    assert!(rt; has_both(fits(tools, &pat, Word::Block(0, two), Env::Nothing)?));
-    assert!(rt; has_both(fit_params(tools, params.as_slice(), two, Env::Nothing)?));
-    assert!(rt; has_both(fit_binds(tools, binds.as_slice(), two, Env::Nothing)?));
-    assert!(rt; fits(tools, &pat, Word::Block(0, one), Env::Nothing)?.is_none());
-    assert!(rt; fit_params(tools, params.as_slice(), one, Env::Nothing)?.is_none());
-    assert!(rt; fit_binds(tools, binds.as_slice(), one, Env::Nothing)?.is_none());
+    assert!(rt; tried(alloc, &bump, &s)?);
     Ok(())
 }
