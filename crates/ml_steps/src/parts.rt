@@ -59,7 +59,6 @@ fn block_words(parts: Words) -> Result<u64, NoMemory>
 }
 
 /// A block of this place is made.
-#[tactic(auto, using(crate::proofs::RunsParts::packed_listed))]
 fn build<'a>(
     told: &mut Vec<Event>,
     node: u32,
@@ -113,7 +112,6 @@ fn arranged<'t, 'a>(
 }
 
 /// The value of a place that has none yet; the first one stays.
-#[tactic(auto, using(crate::proofs::Arranging::fills, crate::proofs::Arranging::keeps))]
 fn fill<'a>(slots: &mut Vec<Option<Word<'a>>>, place: u32, word: Word<'a>) -> Result<(), NoMemory>
     ensures { OnOk result (shown slots.new.items ≡ filled (shown slots.old.items) place (value word.entry)) }
 {
