@@ -1,6 +1,6 @@
 -- The values of a record's fields, put into the order of the declaration.
-use Rattle.std.proofs.Common.{◌≡◌, ◌≢◌, ◌<◌, ◌≤◌, ◌+◌, ◌-◌, ◌==◌, ℕ, zero, suc, true, false, List, [], ◌∷◌, ◌++◌, Option, Some, None, map, length, get_or, take, drop, set, replicate, slice_get, refl, sym, ap, ◌∙◌, arith, tests, add-one, drop-cons, append_assoc}
-use Rattle.std.specs.Prelude.{if◌then◌else◌, nat_lt}
+use Rattle.std.proofs.Common.{◌≡◌, ◌≢◌, ◌<◌, ◌≤◌, ◌+◌, ◌-◌, ◌==◌, ℕ, zero, suc, true, false, List, [], ◌∷◌, ◌++◌, Option, Some, None, Result, Ok, Err, map, length, get_or, take, drop, set, replicate, slice_get, refl, sym, ap, ◌∙◌, arith, tests, add-one, drop-cons, append_assoc}
+use Rattle.std.specs.Prelude.{IfOk, if◌then◌else◌, nat_lt}
 use Rattle.std.specs.List.{range_with_len}
 use Rattle.std.specs.Option.{option_map}
 use Rattle.std.proofs.Math.Decide.{ℕ_discrete}
@@ -200,3 +200,8 @@ filled_end s fields start i rest slots words all g there =
     let shows : shown slots ≡ map (λ k. lookup k pairs) (range_with_len 0 (length pairs)) =
         sym (ap (λ ps. filled_by (shown slots) ps) none) ∙ (g.fill ∙ (all_filled pairs (length fields) ∙ ap (λ n. map (λ k. lookup k pairs) (range_with_len 0 n)) as_many)) in
     ap (m.all_there Event s) (sym shows) ∙ there
+
+pub arranged_there : {F : Type 0} (s : Setting Event) (fields : List FieldExpr) (start : List Value) (i : ℕ) (rest : Words) (slots there : List (Option Word)) (r : Result Words F) →
+    length fields ≤ i → FilledTo s fields start i rest slots → there ≡ slots → IfOk r (λ words. (s : Setting Event) → m.all_there Event s (shown there) ≡ Some (values_list words)) → IfOk r (λ words. arranged_parts s fields start ≡ Some (values_list words))
+arranged_there s fields start i rest slots there (Ok words) all g same h = filled_end s fields start i rest slots (values_list words) all g (ap (λ os. m.all_there Event s (shown os)) (sym same) ∙ h s)
+arranged_there s fields start i rest slots there (Err x) all g same h = tt

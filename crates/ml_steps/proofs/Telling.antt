@@ -1,23 +1,26 @@
 -- What a run tells, with what was told before it: how the steps of a function come together.
-use Rattle.std.proofs.Common.{◌≡◌, ◌+◌, ℕ, List, [], ◌∷◌, ◌++◌, length, take, drop, Option, Some, None, Result, Ok, Err, refl, sym, ap, ◌∙◌}
+use Rattle.std.proofs.Common.{◌≡◌, ◌+◌, ℕ, List, [], ◌∷◌, ◌++◌, length, map, take, drop, Option, Some, None, Result, Ok, Err, refl, sym, ap, ◌∙◌}
 use Rattle.std.specs.Option.{option_map}
 use Rattle.std.proofs.Math.Seq.{take-append_seam, drop-append_seam}
 use Rattle.ml_tree.specs.declared.expr.Bind.{Bind}
 use Rattle.ml_tree.specs.declared.expr.Expr.{Expr}
+use Rattle.ml_tree.specs.declared.expr.FieldExpr.{FieldExpr}
 use Rattle.ml_tree.specs.declared.reference.Op.{Op}
 use Rattle.std.specs.Prelude.{IfOk}
 use Rattle.ml_meaning.specs.declared.event.Event.{Event}
 use Rattle.ml_meaning.specs.declared.event.Event.TheVariants as event
 use Rattle.ml_meaning.specs.Runs.{Run, Done, Stop, Stuck, after, ◌>>=◌}
-use Rattle.ml_meaning.specs.Evaluation.{matched, operation_result}
+use Rattle.ml_meaning.specs.Evaluation.{closure, matched, operation_result, paired, placed}
 use Rattle.ml_meaning.specs.Operations.{operate, operation_arity}
 use Rattle.ml_meaning.specs.Patterns.{Env, all_fit}
-use Rattle.ml_meaning.specs.Programs.{evaluate}
-use Rattle.ml_meaning.specs.Tellings.{Setting, NoMatch, fail, finish, made}
+use Rattle.ml_meaning.specs.Names.{field_place}
+use Rattle.ml_meaning.specs.Programs.{calls, evaluate}
+use Rattle.ml_meaning.specs.Tellings.{Setting, Inner, NoMatch, fail, finish, made, or_stuck}
 use Rattle.ml_matching.specs.Fitting.{bind_fits, onto}
 use Rattle.ml_values.specs.declared.value.Env as ml_env
 use Rattle.ml_meaning.specs.Values as v
 use Rattle.ml_meaning.specs.Values.{Value, packed}
+use Rattle.ml_values.specs.declared.told.Mode.TheVariants as mode
 use Rattle.ml_values.specs.declared.value.Word.TheVariants as W
 use Rattle.ml_values.specs.declared.value.Words.{Words}
 use Rattle.ml_values.specs.Shown.{names, value, values, values_list}
@@ -25,8 +28,8 @@ use Rattle.ml_values.specs.Telling.{mode_of}
 use Rattle.ml_values.proofs.Layers.{block_is}
 use Rattle.ml_steps.specs.declared.frame.Here.{Here}
 use Rattle.ml_steps.specs.declared.frame.Next.{Next}
-use Rattle.ml_steps.specs.Left.{Nexts, bound_run, built, calls_of, next_run, operated, over_applied_run, overwritten_run}
-use Rattle.ml_steps.proofs.RunsParts.{packed_listed, tells, goes_on}
+use Rattle.ml_steps.specs.Left.{Nexts, arranged_parts, bound_run, built, calls_of, closure_run, field_part, next_run, operated, over_applied_run, overwritten_run, record_run}
+use Rattle.ml_steps.proofs.RunsParts.{after_none, packed_listed, tells, goes_on}
 
 -- the run, with what was told before it, is what the result means, with what is told now
 abbrev pub Told : {X F : Type 0} → (X → Run Event Value) → List Event → List Event → Result X F → Run Event Value → Type 0
@@ -97,3 +100,24 @@ module _ (s : Setting Event) where
   pub over_told : {F : Type 0} (now : List Event) (r : Result Next F) (given : Run Event Value) → IfOk r (λ next. (s : Setting Event) → next_run s next ≡ over_applied_run s given) → Nexts s now now r (over_applied_run s given)
   over_told now (Ok next) given h = ap (after now) (sym (h s))
   over_told now (Err x) given h = tt
+
+  -- the places that the fields of a record name
+  places_same : (fs : List FieldExpr) → map (λ f. field_place s.names f.0) (map (field_part s) fs) ≡ map (λ f. field_place s.names f.id) fs
+  places_same [] = refl
+  places_same (f ∷ fs) = ap (λ ks. field_place s.names f.id ∷ ks) (places_same fs)
+
+  -- a record whose values are in order
+  pub record_told : {F : Type 0} (before now : List Event) (r : Result Next F) (node : ℕ) (fs : List FieldExpr) (here : Here) (vs us : List Value) →
+      arranged_parts s fs vs ≡ Some us → Nexts s before now r (built s node (Some 0) here us) → Nexts s before now r (record_run s node fs here vs)
+  record_told before now r node fs here vs us is h =
+      told_as (next_run s) before now r _ _
+      (ap (λ ks. or_stuck (placed Event s (paired Event s ks vs)) >>= λ us. built s node (Some 0) here us) (places_same fs)
+      ∙ (ap (λ o. or_stuck o >>= λ us. built s node (Some 0) here us) is
+      ∙ after_none (built s node (Some 0) here us))) h
+
+  -- a function that is made at the same place, but not in tail position
+  pub closes_inner : (node : ℕ) (here inner : Here) → inner.mode ≡ mode.Inner → inner.env ≡ here.env → inner.fuel ≡ here.fuel → closure_run s node inner ≡ closure Event s node (calls_of s here) Inner (names here.env)
+  closes_inner node here inner m e f =
+      ap (λ x. closure Event s node (calls Event s x) (mode_of inner.mode) (names inner.env)) f
+      ∙ (ap (λ x. closure Event s node (calls_of s here) (mode_of x) (names inner.env)) m
+      ∙ ap (λ x. closure Event s node (calls_of s here) Inner (names x)) e)
