@@ -1,6 +1,6 @@
 //! A long loop.
 
-use super::traced::traced;
+use super::evaluation::evaluate;
 use ml_meaning::Ending;
 use std::test::Fail;
 
@@ -15,7 +15,7 @@ fn long_loop(rt: HostRuntime) -> Result<(), Fail> {
     let source = format!(in alloc;
         "let rec loop n = if n = 0 then exit 7 else loop (n - 1) let () = loop {first}"
     )?;
-    let trace = traced(alloc, source.as_str(), CALLS)?;
+    let trace = evaluate(alloc, source.as_str(), CALLS)?;
     assert_eq!(rt; trace.ending, Ending::Exit(7));
     Ok(())
 }

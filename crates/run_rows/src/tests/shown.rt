@@ -1,6 +1,6 @@
 //! A trace in the words of the table.
 
-use super::traced::Traced;
+use super::evaluation::Trace;
 use ml_meaning::{Ending, Event};
 use std::alloc::{AllocError, Global};
 use std::fmt::Write;
@@ -50,7 +50,7 @@ fn show(out: &mut String, event: Event) -> Result<(), AllocError> {
 }
 
 /// The events from a place on and the end.
-pub fn shown(alloc: Global, trace: &Traced, from: usize) -> Result<String, AllocError> {
+pub fn shown(alloc: Global, trace: &Trace, from: usize) -> Result<String, AllocError> {
     let mut out = String::new(alloc);
     let mut before = None;
     for event in trace.events.as_slice().iter().skip(from) {

@@ -9,46 +9,18 @@
 pub type Row = (&'static str, u64, &'static str);
 
 pub const ROWS: [Row; 106] = [
-    (
-        "",
-        100,
-        "=0",
-    ),
-    (
-        "let () = ()",
-        100,
-        "E72 ( ) L72 =0",
-    ),
-    (
-        "let x = 1",
-        100,
-        "E72 ( ) L72 =0",
-    ),
-    (
-        "let () = print_string \"hi\"",
-        100,
-        "E80 ( \"hi\" ) L80 =0",
-    ),
-    (
-        "let () = print_int 42",
-        100,
-        "E80 ( \"42\" ) L80 =0",
-    ),
-    (
-        "let () = print_int (0 - 7)",
-        100,
-        "E92 ( \"-7\" ) L92 =0",
-    ),
+    ("", 100, "=0"),
+    ("let () = ()", 100, "E72 ( ) L72 =0"),
+    ("let x = 1", 100, "E72 ( ) L72 =0"),
+    ("let () = print_string \"hi\"", 100, "E80 ( \"hi\" ) L80 =0"),
+    ("let () = print_int 42", 100, "E80 ( \"42\" ) L80 =0"),
+    ("let () = print_int (0 - 7)", 100, "E92 ( \"-7\" ) L92 =0"),
     (
         "let () = prerr_string \"no\"",
         100,
         "E80 ( !\"no\" ) L80 =0",
     ),
-    (
-        "let () = print_char 'a'",
-        100,
-        "E80 ( \"a\" ) L80 =0",
-    ),
+    ("let () = print_char 'a'", 100, "E80 ( \"a\" ) L80 =0"),
     (
         "let () = print_string (string_of_int 12)",
         100,
@@ -59,31 +31,15 @@ pub const ROWS: [Row; 106] = [
         100,
         "E92 ( M3 \"abcdefghij\" ) L92 =0",
     ),
-    (
-        "let s = \"\" ^ \"\"",
-        100,
-        "E80 ( M1 ) L80 =0",
-    ),
-    (
-        "let s = \"abcd\" ^ \"efgh\"",
-        100,
-        "E80 ( M2 ) L80 =0",
-    ),
+    ("let s = \"\" ^ \"\"", 100, "E80 ( M1 ) L80 =0"),
+    ("let s = \"abcd\" ^ \"efgh\"", 100, "E80 ( M2 ) L80 =0"),
     (
         "let () = exit 3 let () = print_string \"x\"",
         100,
         "E80 ( =3",
     ),
-    (
-        "let () = exit (0 - 1)",
-        100,
-        "E92 ( =255",
-    ),
-    (
-        "let () = exit 256",
-        100,
-        "E80 ( =0",
-    ),
+    ("let () = exit (0 - 1)", 100, "E92 ( =255"),
+    ("let () = exit 256", 100, "E80 ( =0"),
     (
         "let () = failwith \"a\"",
         100,
@@ -119,11 +75,7 @@ pub const ROWS: [Row; 106] = [
         100,
         "E92 ( \"-4611686018427387904\" ) L92 =0",
     ),
-    (
-        "let () = print_int (1 lsl 63)",
-        100,
-        "E92 ( \"0\" ) L92 =0",
-    ),
+    ("let () = print_int (1 lsl 63)", 100, "E92 ( \"0\" ) L92 =0"),
     (
         "let () = print_int ((0 - 1) lsr 1)",
         100,
@@ -134,21 +86,9 @@ pub const ROWS: [Row; 106] = [
         100,
         "E104 ( \"-1\" ) L104 =0",
     ),
-    (
-        "let () = print_int (6 land 3)",
-        100,
-        "E92 ( \"2\" ) L92 =0",
-    ),
-    (
-        "let () = print_int (6 lor 3)",
-        100,
-        "E92 ( \"7\" ) L92 =0",
-    ),
-    (
-        "let () = print_int (6 lxor 3)",
-        100,
-        "E92 ( \"5\" ) L92 =0",
-    ),
+    ("let () = print_int (6 land 3)", 100, "E92 ( \"2\" ) L92 =0"),
+    ("let () = print_int (6 lor 3)", 100, "E92 ( \"7\" ) L92 =0"),
+    ("let () = print_int (6 lxor 3)", 100, "E92 ( \"5\" ) L92 =0"),
     (
         "let () = print_string (if 1 < 2 then \"y\" else \"n\")",
         100,
@@ -249,21 +189,13 @@ pub const ROWS: [Row; 106] = [
         0,
         "E68 ( ) L68 E80 ( more",
     ),
-    (
-        "let p = (1, 2)",
-        100,
-        "E84 ( M3 ) L84 =0",
-    ),
+    ("let p = (1, 2)", 100, "E84 ( M3 ) L84 =0"),
     (
         "let l = [print_string \"x\"; print_string \"y\"]",
         100,
         "E96 ( \"y\" M3 \"x\" M3 ) L96 =0",
     ),
-    (
-        "let l = 1 :: 2 :: []",
-        100,
-        "E88 ( M3 M3 ) L88 =0",
-    ),
+    ("let l = 1 :: 2 :: []", 100, "E88 ( M3 M3 ) L88 =0"),
     (
         "type r = {a : int; b : int} let x = {b = 1; a = 2}",
         100,
@@ -454,11 +386,7 @@ pub const ROWS: [Row; 106] = [
         1,
         "E68 ( ) L68 E108 ( E72 ( ) L72 E72 ( ) L72 E72 ( ) L72 ) L108 =0",
     ),
-    (
-        "let () = print_int 1",
-        0,
-        "E80 ( \"1\" ) L80 =0",
-    ),
+    ("let () = print_int 1", 0, "E80 ( \"1\" ) L80 =0"),
     (
         "let a = print_string \"a\" and b = print_string \"b\"",
         100,
@@ -479,11 +407,7 @@ pub const ROWS: [Row; 106] = [
         100,
         "E72 ( ) L72 E80 ( E112 ( ) T112>112 ( ) L112 ) L80 =0",
     ),
-    (
-        "let fs = [fun x -> x + 1]",
-        100,
-        "E76 ( M3 ) L76 =0",
-    ),
+    ("let fs = [fun x -> x + 1]", 100, "E76 ( M3 ) L76 =0"),
     (
         "let f a b = fun c -> a + b + c let g = f 1 2",
         100,
@@ -504,11 +428,7 @@ pub const ROWS: [Row; 106] = [
         100,
         "E104 ( M3 E80 ( ) L80 \"3\" ) L104 =0",
     ),
-    (
-        "let x = (1 : int)",
-        100,
-        "E76 ( ) L76 =0",
-    ),
+    ("let x = (1 : int)", 100, "E76 ( ) L76 =0"),
     (
         "let f x = - x let () = print_int (f 3)",
         100,

@@ -1,7 +1,7 @@
 //! Whole programs, with the bytes that they write on each channel and how they end.
 
+use super::evaluation::evaluate;
 use super::programs::{COUNT, DEEP, EVAL, HANDED, INCREMENT, LOOP, REVERSE};
-use super::traced::traced;
 use ml_meaning::{Ending, Event};
 use std::alloc::{AllocError, Global};
 use std::process::Abort;
@@ -11,6 +11,7 @@ use std::test::Fail;
 type Case = (&'static str, u64, &'static str, &'static str, Ending);
 
 const DONE: Ending = Ending::Exit(0);
+
 const FAILED: Ending = Ending::Exit(2);
 
 /// Programs that print and call nothing but operations, whose application is no call: they need no
@@ -118,16 +119,9 @@ const ENDS: [Case; 4] = [
 
 /// The fuel bounds how many calls stand in one another or follow one another in tail position: with
 /// one less there is no end, and the bytes up to the call that was due are there.
-const FUEL: [Case; 16] = [
+const FUEL: [Case; 11] = [
     (INCREMENT, 1, "42", "", DONE),
     (INCREMENT, 0, "", "", Ending::More),
-    (LOOP, 100_001, "", "", DONE),
-    (LOOP, 100_000, "", "", Ending::More),
-    (LOOP, 10, "", "", Ending::More),
-    (DEEP, 100_001, "go\n100000", "", DONE),
-    (DEEP, 100_000, "go\n", "", Ending::More),
-    (COUNT, 100_001, "100000", "", DONE),
-    (COUNT, 100_000, "", "", Ending::More),
     (REVERSE, 1_001, "1", "", DONE),
     (REVERSE, 1_000, "", "", Ending::More),
     (EVAL, 3, "42\n", "", DONE),
@@ -135,6 +129,24 @@ const FUEL: [Case; 16] = [
     (EVAL, 999_999_999_999, "42\n", "", DONE),
     (HANDED, 1, "2", "", DONE),
     ("let f x = x + 1 let () = print_int (f 1)", 1, "2", "", DONE),
+    (
+        "let f x = x + 1 let () = print_int (f 1)",
+        0,
+        "",
+        "",
+        Ending::More,
+    ),
+    (LOOP, 10, "", "", Ending::More),
+];
+
+/// The same of 100,001 calls.
+const MUCH_FUEL: [Case; 6] = [
+    (LOOP, 100_001, "", "", DONE),
+    (LOOP, 100_000, "", "", Ending::More),
+    (COUNT, 100_001, "100000", "", DONE),
+    (COUNT, 100_000, "", "", Ending::More),
+    (DEEP, 100_001, "go\n100000", "", DONE),
+    (DEEP, 100_000, "go\n", "", Ending::More),
 ];
 
 /// The bytes that a trace writes on a channel.
@@ -156,11 +168,15 @@ fn bytes(alloc: Global, events: &[Event], on: u8) -> Result<Vec<u8>, AllocError>
 /// Whether each program of a table writes its bytes and ends as it should.
 fn check(rt: &impl Abort, alloc: Global, table: &[Case]) -> Result<(), Fail> {
     for (source, fuel, out, err, ending) in table {
-        let trace = traced(alloc, source, *fuel)?;
+        let trace = evaluate(alloc, source, *fuel)?;
         let events = trace.events.as_slice();
         let (first, second) = (bytes(alloc, events, 1)?, bytes(alloc, events, 2)?);
         assert_eq!(rt; first.as_slice(), out.as_bytes(), "channel 1 at {source:?}");
-        assert_eq!(rt; second.as_slice(), err.as_bytes(), "channel 2 at {source:?}");
+        assert_eq!(rt;
+            second.as_slice(),
+            err.as_bytes(),
+            "channel 2 at {source:?}"
+        );
         assert_eq!(rt; trace.ending, *ending, "the end at {source:?}");
     }
     Ok(())
@@ -172,4 +188,9 @@ fn bytes_and_ends(rt: HostRuntime) -> Result<(), Fail> {
     check(&rt, rt.alloc(), &NUMBERS)?;
     check(&rt, rt.alloc(), &ENDS)?;
     check(&rt, rt.alloc(), &FUEL)
+}
+
+#[test]
+fn long_runs(rt: HostRuntime) -> Result<(), Fail> {
+    check(&rt, rt.alloc(), &MUCH_FUEL)
 }

@@ -1,9 +1,10 @@
 //! What programs take, in words of memory: of blocks, of local blocks, and of the calls.
 
+use super::evaluation::evaluate;
 use super::programs::{COUNT, DEEP, EVAL, HANDED, INCREMENT, LOOP, REVERSE};
-use super::traced::traced;
 use ml_meaning::Event;
 use std::alloc::{AllocError, Global};
+use std::process::Abort;
 use std::test::Fail;
 
 /// What a trace takes so far, and the most that it took.
@@ -55,7 +56,7 @@ impl Taken {
 }
 
 /// What a program takes where it has so much fuel.
-fn taken(alloc: Global, source: &str, fuel: u64) -> Result<Taken, Fail> {
+fn words_taken(alloc: Global, source: &str, fuel: u64) -> Result<Taken, Fail> {
     let mut taken = Taken {
         made: 0,
         over: 0,
@@ -65,62 +66,55 @@ fn taken(alloc: Global, source: &str, fuel: u64) -> Result<Taken, Fail> {
         calls: 0,
         most_calls: 0,
     };
-    let trace = traced(alloc, source, fuel)?;
+    let trace = evaluate(alloc, source, fuel)?;
     for event in trace.events.as_slice() {
         taken.take(*event)?;
     }
     Ok(taken)
 }
 
-/// A fuel at which each of the programs ends.
-const ENOUGH: u64 = 200_000;
+/// A source, the fuel that it needs to end, the words of the blocks that it makes, of those that it
+/// overwrites, the most words of local blocks, and the greatest weight of the calls.
+type Case = (&'static str, u64, u64, u64, u64, u64);
 
-/// The words of the blocks that a program makes, and of those that it overwrites. A partial
-/// application of one argument has 3, a tuple of two parts 3, a cell of a list 3, a constructor with
-/// one field 2, a text of two bytes 2.
-const BLOCKS: [(&str, u64, u64); 6] = [
-    (INCREMENT, 3, 0),
-    (LOOP, 300_000, 0),
-    (DEEP, 0, 0),
-    (REVERSE, 3_000, 3_000),
-    (EVAL, 14, 0),
-    (HANDED, 3, 0),
+/// A partial application of one argument has 3 words, a tuple of two parts 3, a cell of a list 3, a
+/// constructor with one field 2, a text of two bytes 2. A function or item of k nodes weighs 4k + 64.
+const SMALL: [Case; 4] = [
+    (INCREMENT, 1, 3, 0, 3, 92 + 84),
+    // Three calls of a function of 30 nodes stand in one another. The tree has 12 words, and stands
+    // until the text of its value is printed.
+    (EVAL, 3, 14, 0, 14, 152 + 3 * 184),
+    // The region of the call is closed before the pair is made.
+    (HANDED, 1, 3, 0, 3, 124 + 88),
+    // Each cell is made once and overwritten once.
+    (REVERSE, 1_001, 3_000, 3_000, 3, 132 + 1_001 * 120),
 ];
 
-/// The most words of local blocks, in programs in which each block may be local. The tuple of the
-/// loop is gone before its next call, and the tree of the expression stands until the text of its
-/// value is printed.
-const LOCALS: [(&str, u64); 3] = [(LOOP, 3), (EVAL, 14), (HANDED, 3)];
-
-/// The greatest weight of the calls together, that of the item that runs among them. A function of k
-/// nodes weighs 4k + 64: those of the loops 164 and 132, that of the deep calls 120, `eval` 184.
-const CALLS: [(&str, u64); 4] = [
-    (LOOP, 80 + 164),
-    (COUNT, 96 + 132),
-    (DEEP, 108 + 100_001 * 120),
-    (EVAL, 152 + 3 * 184),
+const LARGE: [Case; 3] = [
+    // The tuple of each call is gone before the next, and so is the call.
+    (LOOP, 100_001, 300_000, 0, 3, 80 + 164),
+    (COUNT, 100_001, 0, 0, 0, 96 + 132),
+    // No call is in tail position, so all stand in one another.
+    (DEEP, 100_001, 0, 0, 0, 108 + 100_001 * 120),
 ];
 
-#[test]
-fn words_of_blocks(rt: HostRuntime) -> Result<(), Fail> {
-    let alloc = rt.alloc();
-    for (source, made, over) in &BLOCKS {
-        let taken = taken(alloc, source, ENOUGH)?;
-        assert_eq!(rt; (taken.made, taken.over), (*made, *over), "at {source:?}");
-    }
-    for (source, most) in &LOCALS {
-        let taken = taken(alloc, source, ENOUGH)?;
-        assert_eq!(rt; taken.most_local, *most, "at {source:?}");
+/// Whether each program of a table takes its words.
+fn check(rt: &impl Abort, alloc: Global, table: &[Case]) -> Result<(), Fail> {
+    for (source, fuel, made, over, most_local, most_calls) in table {
+        let taken = words_taken(alloc, source, *fuel)?;
+        let blocks = (taken.made, taken.over, taken.most_local);
+        assert_eq!(rt; blocks, (*made, *over, *most_local), "at {source:?}");
+        assert_eq!(rt; taken.most_calls, *most_calls, "at {source:?}");
     }
     Ok(())
 }
 
 #[test]
-fn weights_of_calls(rt: HostRuntime) -> Result<(), Fail> {
-    let alloc = rt.alloc();
-    for (source, most) in &CALLS {
-        let taken = taken(alloc, source, ENOUGH)?;
-        assert_eq!(rt; taken.most_calls, *most, "at {source:?}");
-    }
-    Ok(())
+fn words(rt: HostRuntime) -> Result<(), Fail> {
+    check(&rt, rt.alloc(), &SMALL)
+}
+
+#[test]
+fn words_of_long_runs(rt: HostRuntime) -> Result<(), Fail> {
+    check(&rt, rt.alloc(), &LARGE)
 }

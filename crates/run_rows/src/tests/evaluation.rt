@@ -6,19 +6,19 @@ use source_reading::{Answer, resolved};
 use std::alloc::Global;
 use std::test::Fail;
 
-/// The trace of a program, the items of the prelude first, and its end.
+/// The events of a program, those of the prelude's items first, and its end.
 #[derive(Drop)]
-pub struct Traced {
+pub struct Trace {
     pub events: Vec<Event>,
     pub ending: Ending,
 }
 
-/// A source evaluated with so much fuel.
-pub fn traced(alloc: Global, source: &str, fuel: u64) -> Result<Traced, Fail> {
+/// The trace of a source at so much fuel.
+pub fn evaluate(alloc: Global, source: &str, fuel: u64) -> Result<Trace, Fail> {
     let Answer::Found(scoped) = resolved(alloc, source.as_bytes())? else {
         return Err("refused")?;
     };
     let mut events = Vec::new(alloc);
     let ending = run(alloc, &scoped, fuel, &mut events)?;
-    Ok(Traced { events, ending })
+    Ok(Trace { events, ending })
 }
