@@ -2,6 +2,7 @@
 use crate::captures::capturing;
 use crate::reading::{Case, check_accepted};
 use oxml_base::{Limit, Refusal, line_col};
+use source_reading::{Answer, resolved};
 use std::alloc::Global;
 use std::test::Fail;
 

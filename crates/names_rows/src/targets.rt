@@ -3,6 +3,7 @@
 //! before its parts.
 use crate::reading::Case;
 use ml_tree::{Ref, Scoped, TyRef};
+use source_reading::{Answer, resolved};
 use std::alloc::{AllocError, Global};
 use std::fmt::Write;
 use std::process::Abort;

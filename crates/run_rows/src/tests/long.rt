@@ -4,9 +4,10 @@ use super::evaluation::evaluate;
 use ml_meaning::Ending;
 use std::test::Fail;
 
-/// So many calls in tail position, one for each number from the first down to 0. As LLVM builds the
-/// test they take seconds and no stack of the machine.
-const CALLS: u64 = 10_000_000;
+/// So many calls in tail position, one for each number from the first down to 0, each in the place
+/// of the one before. They take no stack of the machine, but memory: the trace is kept, and so is
+/// each value.
+const CALLS: u64 = 1_000_000;
 
 #[test]
 fn long_loop(rt: HostRuntime) -> Result<(), Fail> {
@@ -17,5 +18,7 @@ fn long_loop(rt: HostRuntime) -> Result<(), Fail> {
     )?;
     let trace = evaluate(alloc, source.as_str(), CALLS)?;
     assert_eq!(rt; trace.ending, Ending::Exit(7));
+    let short = evaluate(alloc, source.as_str(), CALLS - 1)?;
+    assert_eq!(rt; short.ending, Ending::More);
     Ok(())
 }
