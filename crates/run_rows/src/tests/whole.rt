@@ -14,8 +14,7 @@ const DONE: Ending = Ending::Exit(0);
 
 const FAILED: Ending = Ending::Exit(2);
 
-/// Programs that print and call nothing but operations, whose application is no call: they need no
-/// fuel.
+/// Programs that print. The application of an operation is no call, so most of them need no fuel.
 const PRINTS: [Case; 5] = [
     ("", 0, "", "", DONE),
     ("let () = print_string \"hi\\n\"", 0, "hi\n", "", DONE),
