@@ -31,3 +31,7 @@ pub const EVAL: &str = "type expr = Num of int | Add of expr * expr | Mul of exp
 /// A pair that is made in the region of the caller.
 pub const HANDED: &str =
     "let f x = exclave_ (x, x) let () = match f 1 with (a, b) -> print_int (a + b)";
+
+/// 21 calls in one another.
+pub const TWENTY: &str =
+    "let rec f n = if n = 0 then 0 else 1 + f (n - 1) let () = print_int (f 20)";

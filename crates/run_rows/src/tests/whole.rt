@@ -1,7 +1,7 @@
 //! Whole programs, with the bytes that they write on each channel and how they end.
 
 use super::evaluation::evaluate;
-use super::programs::{COUNT, DEEP, EVAL, HANDED, INCREMENT, LOOP, REVERSE};
+use super::programs::{COUNT, DEEP, EVAL, HANDED, INCREMENT, LOOP, REVERSE, TWENTY};
 use ml_meaning::{Ending, Event};
 use std::alloc::{AllocError, Global};
 use std::process::Abort;
@@ -118,7 +118,7 @@ const ENDS: [Case; 4] = [
 
 /// The fuel bounds how many calls stand in one another or follow one another in tail position: with
 /// one less there is no end, and the bytes up to the call that was due are there.
-const FUEL: [Case; 11] = [
+const FUEL: [Case; 14] = [
     (INCREMENT, 1, "42", "", DONE),
     (INCREMENT, 0, "", "", Ending::More),
     (REVERSE, 1_001, "1", "", DONE),
@@ -127,6 +127,9 @@ const FUEL: [Case; 11] = [
     (EVAL, 2, "", "", Ending::More),
     (EVAL, 999_999_999_999, "42\n", "", DONE),
     (HANDED, 1, "2", "", DONE),
+    (HANDED, 0, "", "", Ending::More),
+    (TWENTY, 21, "20", "", DONE),
+    (TWENTY, 20, "", "", Ending::More),
     ("let f x = x + 1 let () = print_int (f 1)", 1, "2", "", DONE),
     (
         "let f x = x + 1 let () = print_int (f 1)",
