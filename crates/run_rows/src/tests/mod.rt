@@ -5,6 +5,6 @@ mod long;
 mod programs;
 mod rows;
 mod shown;
-mod table;
+mod tables;
 mod whole;
 mod words;
