@@ -1,5 +1,5 @@
 -- One turn of a walk along a list of values, and along the names.
-use Rattle.std.proofs.Common.{◌≡◌, ◌≢◌, Bor, ℕ, zero, suc, ◌+◌, List, [], ◌∷◌, length, Option, Some, None, slice_get, sym, ap, refl, ◌∙◌, arith}
+use Rattle.std.proofs.Common.{◌≡◌, ◌≢◌, Bor, ℕ, suc, ◌+◌, List, [], ◌∷◌, length, Option, Some, None, slice_get, sym, ap, ◌∙◌, arith}
 use Rattle.ml_values.specs.declared.value.Words.{Words}
 use Rattle.ml_values.specs.declared.value.Words.TheVariants as L
 use Rattle.ml_values.specs.declared.value.Pair.{Pair, out-Pair}
@@ -8,7 +8,7 @@ use Rattle.ml_values.specs.declared.value.Env.TheVariants as N
 use Rattle.ml_values.specs.declared.value.Bound.{Bound, out-Bound}
 use Rattle.ml_meaning.specs.Values.{Value, listed}
 use Rattle.ml_meaning.specs.Names.{lookup}
-use Rattle.ml_values.specs.Shown.{value, values, values_list, names}
+use Rattle.ml_values.specs.Shown.{value, values_list, names}
 use Rattle.ml_values.proofs.Layers.{empty_is, and_at, nothing_is, bound_at}
 
 pub list_end : (rest : Words) → rest ≡ L.Empty → values_list rest ≡ []

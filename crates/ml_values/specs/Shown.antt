@@ -1,12 +1,10 @@
 -- What the evaluator's values and names stand for in the meaning.
-use Rattle.std.specs.Prelude.{ℕ, List, [], ◌∷◌, Option, Some, None}
+use Rattle.std.specs.Prelude.{List, [], ◌∷◌}
 use Rattle.ml_values.specs.declared.value.Word.{Word, fold-Word}
 use Rattle.ml_values.specs.declared.value.Words.{Words, fold-Words}
-use Rattle.ml_values.specs.declared.value.Pair.{Pair, fold-Pair}
 use Rattle.ml_values.specs.declared.value.Word.TheOpen as w
 use Rattle.ml_values.specs.declared.value.Word.TheOpen.{Word-F, Words-F, Pair-F}
 use Rattle.ml_values.specs.declared.value.Env.{Env, fold-Env}
-use Rattle.ml_values.specs.declared.value.Bound.{Bound, fold-Bound}
 use Rattle.ml_values.specs.declared.value.Env.TheOpen as n
 use Rattle.ml_values.specs.declared.value.Env.TheOpen.{Env-F, Bound-F}
 use Rattle.ml_values.specs.declared.value.Code.{Code}

@@ -1,5 +1,5 @@
 //! The operations and the operators on values.
-ghost use Rattle.std.specs.Prelude.{◌≡◌, ◌+◌, ◌/◌, ◌∷◌, [], pos, true, length, IfOk};
+ghost use Rattle.std.specs.Prelude.{◌≡◌, ℕ, ◌+◌, ◌/◌, ◌∷◌, [], pos, true, length, IfOk};
 ghost use Rattle.std.specs.Option.{option_map};
 ghost use Rattle.ml_meaning.specs.declared.event.Event.{Event};
 ghost use Rattle.ml_meaning.specs.declared.event.Event.TheVariants.{Made};
@@ -165,10 +165,10 @@ fn order(one: Word, other: Word) -> Option<Ordering>
     }
 }
 
-/// What a comparison says of two values.
+/// What a comparison says of two values, at any node.
 fn compared<'a>(op: BinOp, one: Word<'a>, other: Word<'a>) -> Result<Given<'a>, NoMemory>
     requires { is_comparison op ≡ true }
-    ensures { Plainly (λ s. IfOk result (λ g. given_run g ≡ operator Event s 0 op (value one.entry) (value other.entry))) }
+    ensures { Plainly (λ s. (node : ℕ) → IfOk result (λ g. given_run g ≡ operator Event s node op (value one.entry) (value other.entry))) }
 {
     let Some(order) = order(one, other) else {
         return Err(NoMemory);
