@@ -8,7 +8,7 @@ use Rattle.ml_typing.specs.declared.equation.Equation.{Equation}
 use Rattle.ml_typing.specs.Written.{Names}
 use Rattle.ml_typing.specs.Rows.{equation, node_is, at}
 use Rattle.ml_typing.specs.Steps.{expression, ats, args_are}
-use Rattle.hm_steps.proofs.Rows.{expression_is}
+use Rattle.hm_steps.proofs.RowParts.{expression_is}
 
 split : (xs : List Expr) (i : ℕ) (x : Expr) → i < length xs → x ≡ get_or xs i x → drop i xs ≡ x ∷ drop (i + 1) xs
 split xs i x lt e = rw add-one (drop-cons xs i x lt ∙ ap (λ z. z ∷ drop (suc i) xs) (sym e))

@@ -1,11 +1,11 @@
 pub mod Arguments
-pub mod Binders
+pub mod BinderLayers
 pub mod ExpressionLayers
 pub mod ExpressionParts
-pub mod Items
+pub mod ItemParts
 pub mod Lists
 pub mod Lookups
 pub mod PatternLayers
 pub mod PatternParts
-pub mod Rows
+pub mod RowParts
 pub mod Walks

@@ -2,7 +2,7 @@ use Rattle.std.proofs.Common.{map, refl, ap, ◌∙◌}
 use Rattle.ml_typing.specs.Rows.{type_of}
 use Rattle.ml_typing.specs.Steps.{param_parts}
 use Rattle.ml_typing.specs.Typing.{names_of}
-use Rattle.hm_steps.proofs.Rows.{if_ok, bind_first, bind_plain, bind_annotated}
+use Rattle.hm_steps.proofs.RowParts.{if_ok, bind_first, bind_plain, bind_annotated}
 use Rattle.hm_steps.proofs.bind_rows.bind_row.Goals as goal
 
 pub returns-in_ok-right-in-Some : goal.returns-in_ok-right-in-Some

@@ -1,5 +1,5 @@
 use Rattle.std.proofs.Common.{slice_get, sym, ap, ◌∙◌}
-use Rattle.hm_steps.proofs.Rows.{value_from, value_none}
+use Rattle.hm_steps.proofs.RowParts.{value_from, value_none}
 use Rattle.hm_steps.proofs.bind_rows.value_span.Goals as goal
 
 pub returns-in-Some : goal.returns-in-Some

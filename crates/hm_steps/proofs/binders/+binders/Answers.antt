@@ -4,7 +4,7 @@ use Rattle.ml_typing.specs.Steps.{binders, joined}
 use Rattle.hm_steps.specs.Blocks.{binders_of_field}
 use Rattle.hm_steps.proofs.Lists.{block_step, block_end}
 use Rattle.hm_steps.proofs.Walks.{two, nothing}
-use Rattle.hm_steps.proofs.Binders as B
+use Rattle.hm_steps.proofs.BinderLayers as B
 use Rattle.hm_steps.proofs.PatternLayers as L
 use Rattle.hm_steps.proofs.binders.+binders.Goals as goal
 

@@ -1,5 +1,5 @@
 use Rattle.std.proofs.Common.{◌∷◌, ◌++◌, [], sym, ap, ◌∙◌}
-use Rattle.hm_steps.proofs.Rows.{if_ok, begun, last_some, last_none}
+use Rattle.hm_steps.proofs.RowParts.{if_ok, begun, last_some, last_none}
 use Rattle.hm_steps.proofs.expression_rows.last_is.Goals as goal
 
 pub returns-in-Some : goal.returns-in-Some

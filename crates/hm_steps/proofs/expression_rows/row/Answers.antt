@@ -7,7 +7,7 @@ use Rattle.ml_typing.specs.Steps.{expression, expr_kind, field_expr, arm, arms_a
 use Rattle.ml_typing.specs.Typing.{names_of}
 use Rattle.hm_steps.proofs.ExpressionLayers as L
 use Rattle.hm_steps.proofs.Walks.{row_of_kind}
-use Rattle.hm_steps.proofs.Rows.{if_ok, first, more, alone, first_then, after_none, parts_of_three, term_is, function_is, pattern_is, expression_is}
+use Rattle.hm_steps.proofs.RowParts.{if_ok, first, more, alone, first_then, after_none, parts_of_three, term_is, function_is, pattern_is, expression_is}
 use Rattle.hm_steps.proofs.expression_rows.row.Goals as goal
 
 pub returns-in-Int : goal.returns-in-Int

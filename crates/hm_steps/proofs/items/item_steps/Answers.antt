@@ -1,5 +1,5 @@
 use Rattle.ml_typing.specs.Typing.{names_of}
-use Rattle.hm_steps.proofs.Items.{of_types, of_binds}
+use Rattle.hm_steps.proofs.ItemParts.{of_types, of_binds}
 use Rattle.hm_steps.proofs.items.item_steps.Goals as goal
 
 pub returns-in_ok-push-in-Types : goal.returns-in_ok-push-in-Types

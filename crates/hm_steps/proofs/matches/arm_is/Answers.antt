@@ -1,5 +1,5 @@
 use Rattle.ml_typing.specs.declared.equation.Term.TheVariants.{Of}
-use Rattle.hm_steps.proofs.Rows.{if_ok, arm_equations}
+use Rattle.hm_steps.proofs.RowParts.{if_ok, arm_equations}
 use Rattle.hm_steps.proofs.matches.arm_is.Goals as goal
 
 pub returns : goal.returns

@@ -1,5 +1,5 @@
 use Rattle.std.proofs.Common.{refl, ◌∙◌}
-use Rattle.hm_steps.proofs.Rows.{if_ok, first_then, term_is, function_is, pushed}
+use Rattle.hm_steps.proofs.RowParts.{if_ok, first_then, term_is, function_is, pushed}
 use Rattle.hm_steps.proofs.matches.function_row.Goals as goal
 
 pub returns : goal.returns

@@ -1,4 +1,4 @@
-use Rattle.hm_steps.proofs.Rows.{if_ok, guard_some, guard_none}
+use Rattle.hm_steps.proofs.RowParts.{if_ok, guard_some, guard_none}
 use Rattle.hm_steps.proofs.matches.guard_is.Goals as goal
 
 pub returns-in-Some : goal.returns-in-Some

@@ -1,4 +1,4 @@
-use Rattle.hm_steps.proofs.Rows.{if_ok, scrutinee_some, scrutinee_none}
+use Rattle.hm_steps.proofs.RowParts.{if_ok, scrutinee_some, scrutinee_none}
 use Rattle.hm_steps.proofs.patterns.with_scrutinee.Goals as goal
 
 pub returns-in-Some : goal.returns-in-Some
