@@ -1,5 +1,6 @@
 -- The names that single kinds of patterns bind.
 use Rattle.std.proofs.Common.{◌≡◌, ℕ, ℤ, Bool, List, [], ◌∷◌, ◌++◌, map, Option, Some, None, refl, sym, ap, ◌∙◌}
+use Rattle.std.specs.Option.{option_map}
 use Rattle.oxml_base.specs.declared.span.Span.{Span}
 use Rattle.oxml_base.specs.declared.literal.Lit.{Lit}
 use Rattle.ml_tree.specs.declared.words.Words.{Words}
@@ -11,8 +12,7 @@ use Rattle.ml_tree.specs.declared.pattern.PatKind.{PatKind, fold-PatKind, fold-r
 use Rattle.ml_tree.specs.declared.pattern.PatKind.TheVariants as P
 use Rattle.ml_tree.specs.declared.pattern.PatKind.TheOpen as p
 use Rattle.ml_typing.specs.Steps.{binders, joined, kind_binders, field_binders, whole_binders}
-use Rattle.hm_steps.specs.Blocks.{binders_of_field}
-use Rattle.hm_steps.proofs.Walks.{two, nothing}
+use Rattle.hm_steps.specs.Blocks.{binders_of_field, binders_of_any}
 
 abbrev pub of_kind : PatKind → ℕ → List ℕ
 of_kind k = fold-PatKind (ℕ → List ℕ) (List ℕ) (List ℕ) kind_binders field_binders whole_binders k
@@ -24,11 +24,13 @@ by_kind q k names is law = fold_out-Pat (ℕ → List ℕ) (List ℕ) (List ℕ)
 pub of_field : (f : FieldPat) → binders_of_field f ≡ binders (out-FieldPat f).pat
 of_field f = fold_out-FieldPat (ℕ → List ℕ) (List ℕ) (List ℕ) kind_binders field_binders whole_binders f
 
-pub con : (name : ConName) (q : Pat) → of_kind (P.Con name (Some q)) ≡ kind_binders (p.Con name (Some (binders q)))
-con name q = ap of_kind (sym (P.rolls-Con name (Some q))) ∙ fold-roll-PatKind (ℕ → List ℕ) (List ℕ) (List ℕ) kind_binders field_binders whole_binders (p.Con name (Some q))
+pub con : (name : ConName) (arg : Option Pat) → of_kind (P.Con name arg) ≡ kind_binders (p.Con name (option_map binders arg))
+con name None = ap of_kind (sym (P.rolls-Con name None)) ∙ fold-roll-PatKind (ℕ → List ℕ) (List ℕ) (List ℕ) kind_binders field_binders whole_binders (p.Con name None)
+con name (Some q) = ap of_kind (sym (P.rolls-Con name (Some q))) ∙ fold-roll-PatKind (ℕ → List ℕ) (List ℕ) (List ℕ) kind_binders field_binders whole_binders (p.Con name (Some q))
 
-pub con_alone : (name : ConName) → of_kind (P.Con name None) ≡ kind_binders (p.Con name None)
-con_alone name = ap of_kind (sym (P.rolls-Con name None)) ∙ fold-roll-PatKind (ℕ → List ℕ) (List ℕ) (List ℕ) kind_binders field_binders whole_binders (p.Con name None)
+pub con_binders : (name : ConName) (arg : Option (List ℕ)) (n : ℕ) → kind_binders (p.Con name arg) n ≡ binders_of_any arg
+con_binders name None n = refl
+con_binders name (Some ns) n = refl
 
 pub cons : (q u : Pat) → of_kind (P.Cons q u) ≡ kind_binders (p.Cons (binders q) (binders u))
 cons q u = ap of_kind (sym (P.rolls-Cons q u)) ∙ fold-roll-PatKind (ℕ → List ℕ) (List ℕ) (List ℕ) kind_binders field_binders whole_binders (p.Cons q u)

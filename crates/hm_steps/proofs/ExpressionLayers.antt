@@ -7,8 +7,9 @@ use Rattle.ml_tree.specs.declared.words.Words.{Words}
 use Rattle.ml_tree.specs.declared.types.TyExpr.{TyExpr}
 use Rattle.ml_tree.specs.declared.pattern.ConName.{ConName}
 use Rattle.ml_tree.specs.declared.pattern.Param.{Param}
+use Rattle.ml_tree.specs.declared.pattern.Pat.{Pat}
 use Rattle.ml_tree.specs.declared.expr.BinOp.{BinOp}
-use Rattle.ml_tree.specs.declared.expr.Arm.{Arm, out-Arm, fold_out-Arm}
+use Rattle.ml_tree.specs.declared.expr.Arm.{Arm, out-Arm, map-Arm, fold_out-Arm}
 use Rattle.ml_tree.specs.declared.expr.Bind.{Bind, out-Bind, fold_out-Bind}
 use Rattle.ml_tree.specs.declared.expr.FieldExpr.{FieldExpr, out-FieldExpr, fold_out-FieldExpr}
 use Rattle.ml_tree.specs.declared.expr.Expr.{Expr, out-Expr, fold_out-Expr}
@@ -23,11 +24,13 @@ use Rattle.hm_steps.specs.Blocks.{field_is}
 use Rattle.ml_typing.specs.Rows.{Part, Row, FieldPart, equation, node_is, declared_field, pattern, part_of, field_part}
 use Rattle.ml_typing.specs.Steps.{param_parts, result_term, ArmPart, BindPart, expression, expr_kind, arm, bind, field_expr, expr_row, arm_part, bind_part, expr_whole, expr_field}
 
-pub con : (names : Names) (name : ConName) (x : Expr) → expr_kind names (E.Con name (Some x)) ≡ expr_row names (e.Con name (Some (expression names x)))
-con names name x = ap (expr_kind names) (sym (E.rolls-Con name (Some x))) ∙ fold-roll-ExprKind Row ArmPart BindPart Part FieldPart (expr_row names) (arm_part names) (bind_part names) expr_whole expr_field (e.Con name (Some x))
+pub con : (names : Names) (name : ConName) (arg : Option Expr) → expr_kind names (E.Con name arg) ≡ expr_row names (e.Con name (option_map (expression names) arg))
+con names name None = ap (expr_kind names) (sym (E.rolls-Con name None)) ∙ fold-roll-ExprKind Row ArmPart BindPart Part FieldPart (expr_row names) (arm_part names) (bind_part names) expr_whole expr_field (e.Con name None)
+con names name (Some x) = ap (expr_kind names) (sym (E.rolls-Con name (Some x))) ∙ fold-roll-ExprKind Row ArmPart BindPart Part FieldPart (expr_row names) (arm_part names) (bind_part names) expr_whole expr_field (e.Con name (Some x))
 
-pub con_alone : (names : Names) (name : ConName) → expr_kind names (E.Con name None) ≡ expr_row names (e.Con name None)
-con_alone names name = ap (expr_kind names) (sym (E.rolls-Con name None)) ∙ fold-roll-ExprKind Row ArmPart BindPart Part FieldPart (expr_row names) (arm_part names) (bind_part names) expr_whole expr_field (e.Con name None)
+pub conditional : (names : Names) (x y : Expr) (other : Option Expr) → expr_kind names (E.If x y other) ≡ expr_row names (e.If (expression names x) (expression names y) (option_map (expression names) other))
+conditional names x y None = ap (expr_kind names) (sym (E.rolls-If x y None)) ∙ fold-roll-ExprKind Row ArmPart BindPart Part FieldPart (expr_row names) (arm_part names) (bind_part names) expr_whole expr_field (e.If x y None)
+conditional names x y (Some z) = ap (expr_kind names) (sym (E.rolls-If x y (Some z))) ∙ fold-roll-ExprKind Row ArmPart BindPart Part FieldPart (expr_row names) (arm_part names) (bind_part names) expr_whole expr_field (e.If x y (Some z))
 
 pub cons : (names : Names) (x y : Expr) → expr_kind names (E.Cons x y) ≡ expr_row names (e.Cons (expression names x) (expression names y))
 cons names x y = ap (expr_kind names) (sym (E.rolls-Cons x y)) ∙ fold-roll-ExprKind Row ArmPart BindPart Part FieldPart (expr_row names) (arm_part names) (bind_part names) expr_whole expr_field (e.Cons x y)
@@ -55,12 +58,6 @@ binary names op x y = ap (expr_kind names) (sym (E.rolls-Binary op x y)) ∙ fol
 
 pub minus : (names : Names) (x : Expr) → expr_kind names (E.Minus x) ≡ expr_row names (e.Minus (expression names x))
 minus names x = ap (expr_kind names) (sym (E.rolls-Minus x)) ∙ fold-roll-ExprKind Row ArmPart BindPart Part FieldPart (expr_row names) (arm_part names) (bind_part names) expr_whole expr_field (e.Minus x)
-
-pub if_else : (names : Names) (x y z : Expr) → expr_kind names (E.If x y (Some z)) ≡ expr_row names (e.If (expression names x) (expression names y) (Some (expression names z)))
-if_else names x y z = ap (expr_kind names) (sym (E.rolls-If x y (Some z))) ∙ fold-roll-ExprKind Row ArmPart BindPart Part FieldPart (expr_row names) (arm_part names) (bind_part names) expr_whole expr_field (e.If x y (Some z))
-
-pub if_alone : (names : Names) (x y : Expr) → expr_kind names (E.If x y None) ≡ expr_row names (e.If (expression names x) (expression names y) None)
-if_alone names x y = ap (expr_kind names) (sym (E.rolls-If x y None)) ∙ fold-roll-ExprKind Row ArmPart BindPart Part FieldPart (expr_row names) (arm_part names) (bind_part names) expr_whole expr_field (e.If x y None)
 
 pub binding : (names : Names) (recursive : Bool) (bs : List Bind) (x : Expr) → expr_kind names (E.Let recursive bs x) ≡ expr_row names (e.Let recursive (map (bind names) bs) (expression names x))
 binding names recursive bs x = ap (expr_kind names) (sym (E.rolls-Let recursive bs x)) ∙ fold-roll-ExprKind Row ArmPart BindPart Part FieldPart (expr_row names) (arm_part names) (bind_part names) expr_whole expr_field (e.Let recursive bs x)
@@ -132,18 +129,15 @@ is_field names n f right old new e h =
     let x = (out-FieldExpr f).expr in
     h ∙ ap (λ z. old ++ z ∷ []) (is_node names x right ∙ (ap (node_is (expression names x)) e ∙ ap (field_is names n) (sym (of_field names f))))
 
+arm_parts : (names : Names) (pat : Pat) (guard : Option Expr) (body : Expr) → arm_part names (map-Arm ExprKind Arm Bind Expr FieldExpr Row ArmPart BindPart Part FieldPart (expr_kind names) (arm names) (bind names) (expression names) (field_expr names) (record { pat = pat; guard = guard; body = body })) ≡ record { pat = pattern names pat; guard = option_map (expression names) guard; body = expression names body }
+arm_parts names pat None body = refl
+arm_parts names pat (Some x) body = refl
+
 pub of_arm : (names : Names) (a : Arm) → arm names a ≡ record { pat = pattern names (out-Arm a).pat; guard = option_map (expression names) (out-Arm a).guard; body = expression names (out-Arm a).body }
-of_arm names a = fold_out-Arm Row ArmPart BindPart Part FieldPart (expr_row names) (arm_part names) (bind_part names) expr_whole expr_field a
+of_arm names a = fold_out-Arm Row ArmPart BindPart Part FieldPart (expr_row names) (arm_part names) (bind_part names) expr_whole expr_field a ∙ arm_parts names (out-Arm a).pat (out-Arm a).guard (out-Arm a).body
 
 pub of_bind : (names : Names) (b : Bind) → bind names b ≡ record { pat = pattern names (out-Bind b).pat; params = param_parts names (out-Bind b).params; result = result_term names (out-Bind b).result; body = expression names (out-Bind b).body }
 of_bind names b = fold_out-Bind Row ArmPart BindPart Part FieldPart (expr_row names) (arm_part names) (bind_part names) expr_whole expr_field b
-
--- a constructor, or a condition, whose last part is known by another name
-pub con_at : (kind : ExprKind) (name : ConName) (arg other : Option Expr) → kind ≡ E.Con name arg → arg ≡ other → kind ≡ E.Con name other
-con_at kind name arg other is same = is ∙ ap (λ z. E.Con name z) same
-
-pub if_at : (kind : ExprKind) (x y : Expr) (arg other : Option Expr) → kind ≡ E.If x y arg → arg ≡ other → kind ≡ E.If x y other
-if_at kind x y arg other is same = is ∙ ap (λ z. E.If x y z) same
 
 -- neither is a comparison, whatever its last part
 pub con_compares : (names : Names) (name : ConName) (arg : Option Expr) (n : ℕ) → (expr_kind names (E.Con name arg)).compared n ≡ None

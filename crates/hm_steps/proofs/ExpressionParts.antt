@@ -1,5 +1,6 @@
 -- The steps of the parts of an expression, kind by kind.
 use Rattle.std.proofs.Common.{◌≡◌, ℕ, ℤ, Bool, List, [], ◌++◌, map, Option, Some, None, sym, ap, ◌∙◌}
+use Rattle.std.specs.Option.{option_map}
 use Rattle.oxml_base.specs.declared.span.Span.{Span}
 use Rattle.oxml_base.specs.declared.literal.Lit.{Lit}
 use Rattle.ml_tree.specs.declared.words.Words.{Words}
@@ -17,16 +18,16 @@ use Rattle.ml_typing.specs.declared.equation.Unknown.TheVariants.{Node, Fresh}
 use Rattle.ml_typing.specs.declared.equation.Term.TheVariants.{Of}
 use Rattle.ml_typing.specs.declared.equation.Step.{Step}
 use Rattle.ml_typing.specs.Written.{Names}
-use Rattle.ml_typing.specs.Rows.{field_parts, steps_of, all_steps}
+use Rattle.ml_typing.specs.Rows.{field_parts, steps_of, steps_of_any, all_steps}
 use Rattle.ml_typing.specs.Steps.{expression, expr_kind, field_expr, arm, bind, param_parts, arms_steps, binds_steps}
 use Rattle.hm_steps.proofs.ExpressionLayers as L
 use Rattle.hm_steps.proofs.Walks.{two, three, nothing, of_kind}
 
-pub con : (names : Names) (kind : ExprKind) (name : ConName) (x : Expr) (x' : Expr) (arg : Option Expr) (n : ℕ) (old new : List Step) → kind ≡ E.Con name arg → arg ≡ Some x → x' ≡ x → new ≡ old ++ steps_of (expression names x') → new ≡ old ++ (expr_kind names kind).before n
-con names kind name x x' arg n old new is some same_x e = of_kind (expr_kind names) kind _ _ n old new (is ∙ ap (λ z. E.Con name z) some) (L.con names name x) (e ∙ ap (λ z. old ++ steps_of (expression names z)) same_x)
+pub con : (names : Names) (kind : ExprKind) (name : ConName) (arg : Option Expr) (n : ℕ) (old new : List Step) → kind ≡ E.Con name arg → new ≡ old ++ steps_of_any (option_map (expression names) arg) → new ≡ old ++ (expr_kind names kind).before n
+con names kind name arg n old new is e = of_kind (expr_kind names) kind _ _ n old new is (L.con names name arg) e
 
-pub con_alone : (names : Names) (kind : ExprKind) (name : ConName) (arg : Option Expr) (n : ℕ) (old : List Step) → kind ≡ E.Con name arg → arg ≡ None → old ≡ old ++ (expr_kind names kind).before n
-con_alone names kind name arg n old is none = of_kind (expr_kind names) kind _ _ n old old (is ∙ ap (λ z. E.Con name z) none) (L.con_alone names name) (nothing old)
+pub conditional : (names : Names) (kind : ExprKind) (x y : Expr) (other : Option Expr) (x' : Expr) (y' : Expr) (n : ℕ) (old m k new : List Step) → kind ≡ E.If x y other → x' ≡ x → y' ≡ y → m ≡ old ++ steps_of (expression names x') → k ≡ m ++ steps_of (expression names y') → new ≡ k ++ steps_of_any (option_map (expression names) other) → new ≡ old ++ (expr_kind names kind).before n
+conditional names kind x y other x' y' n old m k new is same_x same_y e f g = of_kind (expr_kind names) kind _ _ n old new is (L.conditional names x y other) (three old m k new _ _ _ (e ∙ ap (λ z. old ++ steps_of (expression names z)) same_x) (f ∙ ap (λ z. m ++ steps_of (expression names z)) same_y) g)
 
 pub cons : (names : Names) (kind : ExprKind) (x y : Expr) (x' : Expr) (y' : Expr) (n : ℕ) (old mid new : List Step) → kind ≡ E.Cons x y → x' ≡ x → y' ≡ y → mid ≡ old ++ steps_of (expression names x') → new ≡ mid ++ steps_of (expression names y') → new ≡ old ++ (expr_kind names kind).before n
 cons names kind x y x' y' n old mid new is same_x same_y e f = of_kind (expr_kind names) kind _ _ n old new is (L.cons names x y) (two old mid new _ _ (e ∙ ap (λ z. old ++ steps_of (expression names z)) same_x) (f ∙ ap (λ z. mid ++ steps_of (expression names z)) same_y))
@@ -51,12 +52,6 @@ fields names kind fs fs' n old new is same_fs e = of_kind (expr_kind names) kind
 
 pub apply : (names : Names) (kind : ExprKind) (x : Expr) (xs : List Expr) (x' : Expr) (xs' : List Expr) (n : ℕ) (old mid new : List Step) → kind ≡ E.Apply x xs → x' ≡ x → xs' ≡ xs → mid ≡ old ++ steps_of (expression names x') → new ≡ mid ++ all_steps (map (expression names) xs') → new ≡ old ++ (expr_kind names kind).before n
 apply names kind x xs x' xs' n old mid new is same_x same_xs e f = of_kind (expr_kind names) kind _ _ n old new is (L.apply names x xs) (two old mid new _ _ (e ∙ ap (λ z. old ++ steps_of (expression names z)) same_x) (f ∙ ap (λ z. mid ++ all_steps (map (expression names) z)) same_xs))
-
-pub if_alone : (names : Names) (kind : ExprKind) (x y : Expr) (x' : Expr) (y' : Expr) (arg : Option Expr) (n : ℕ) (old mid new : List Step) → kind ≡ E.If x y arg → arg ≡ None → x' ≡ x → y' ≡ y → mid ≡ old ++ steps_of (expression names x') → new ≡ mid ++ steps_of (expression names y') → new ≡ old ++ (expr_kind names kind).before n
-if_alone names kind x y x' y' arg n old mid new is none same_x same_y e f = of_kind (expr_kind names) kind _ _ n old new (is ∙ ap (λ z. E.If x y z) none) (L.if_alone names x y) (three old mid new new _ _ [] (e ∙ ap (λ z. old ++ steps_of (expression names z)) same_x) (f ∙ ap (λ z. mid ++ steps_of (expression names z)) same_y) (nothing new))
-
-pub if_else : (names : Names) (kind : ExprKind) (x y z : Expr) (x' : Expr) (y' : Expr) (z' : Expr) (arg : Option Expr) (n : ℕ) (old m k new : List Step) → kind ≡ E.If x y arg → arg ≡ Some z → x' ≡ x → y' ≡ y → z' ≡ z → m ≡ old ++ steps_of (expression names x') → k ≡ m ++ steps_of (expression names y') → new ≡ k ++ steps_of (expression names z') → new ≡ old ++ (expr_kind names kind).before n
-if_else names kind x y z x' y' z' arg n old m k new is some same_x same_y same_z e f g = of_kind (expr_kind names) kind _ _ n old new (is ∙ ap (λ z. E.If x y z) some) (L.if_else names x y z) (three old m k new _ _ _ (e ∙ ap (λ z. old ++ steps_of (expression names z)) same_x) (f ∙ ap (λ z. m ++ steps_of (expression names z)) same_y) (g ∙ ap (λ z. k ++ steps_of (expression names z)) same_z))
 
 pub binding : (names : Names) (kind : ExprKind) (recursive : Bool) (bs : List Bind) (x : Expr) (bs' : List Bind) (x' : Expr) (n : ℕ) (old mid new : List Step) → kind ≡ E.Let recursive bs x → bs' ≡ bs → x' ≡ x → mid ≡ old ++ binds_steps (map (bind names) bs') → new ≡ mid ++ steps_of (expression names x') → new ≡ old ++ (expr_kind names kind).before n
 binding names kind recursive bs x bs' x' n old mid new is same_bs same_x e f = of_kind (expr_kind names) kind _ _ n old new is (L.binding names recursive bs x) (two old mid new _ _ (e ∙ ap (λ z. old ++ binds_steps (map (bind names) z)) same_bs) (f ∙ ap (λ z. mid ++ steps_of (expression names z)) same_x))

@@ -1,5 +1,5 @@
 -- What is found in a list in the order of its numbers.
-use Rattle.std.proofs.Common.{◌≡◌, ℕ, zero, suc, ◌<◌, true, false, cond, eqb, List, [], ◌∷◌, Option, Some, None, slice_get, refl, ap, ◌∙◌, ⊎_elim, arith}
+use Rattle.std.proofs.Common.{◌≡◌, ℕ, zero, suc, ◌<◌, true, false, cond, eqb, List, [], ◌∷◌, Option, Some, None, IfSome, IfNone, slice_get, refl, sym, ap, ◌∙◌, ⊎_elim, arith}
 use Rattle.std.proofs.lemmas.Bool.{eq-eqb}
 use Rattle.std.proofs.lemmas.Bool.Decides.{eqb_tells}
 use Rattle.ml_tree.specs.Rising.{Rises, Has}
@@ -26,5 +26,16 @@ find_at {A} (p ∷ ps) zero n a rise at =
 find_at (p ∷ ps) (suc k) n a rise at =
     passed p.0 n (Some p.1) (find ps n) (rise zero (suc k) p (n, a) (omega arith) refl at) ∙ find_at ps k n a (rises_tail p ps rise) at
 
-pub find_has : {A : Type 0} (xs : List (ℕ × A)) (n : ℕ) (a : A) → Rises xs → Has xs n a → find xs n ≡ Some a
+find_has : {A : Type 0} (xs : List (ℕ × A)) (n : ℕ) (a : A) → Rises xs → Has xs n a → find xs n ≡ Some a
 find_has xs n a rise has = find_at xs has.0 n a rise has.1
+
+find_none : {A : Type 0} (xs : List (ℕ × A)) (n : ℕ) → ((a : A) → Has xs n a → ⊥) → find xs n ≡ None
+find_none [] n none = refl
+find_none (p ∷ ps) n none = ⊎_elim
+    (λ (e : (eqb p.0 n ≡ true) × (p.0 ≡ n)). absurd (none p.1 (0, ap (λ (m : ℕ). Some (m, p.1)) e.1)))
+    (λ (e : (eqb p.0 n ≡ false) × (p.0 ≡ n → ⊥)). ap (λ c. cond c (Some p.1) (find ps n)) e.0 ∙ find_none ps n (λ a has. none a (suc has.0, has.1)))
+    (eqb_tells p.0 n)
+
+pub find_is : {A : Type 0} (xs : List (ℕ × A)) (n : ℕ) (o : Option A) → Rises xs → IfSome o (Has xs n) → IfNone o ((a : A) → Has xs n a → ⊥) → o ≡ find xs n
+find_is xs n None rise some none = sym (find_none xs n none)
+find_is xs n (Some a) rise some none = sym (find_has xs n a rise some)

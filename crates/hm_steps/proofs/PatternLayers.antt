@@ -1,5 +1,6 @@
 -- The rows of single kinds of patterns.
 use Rattle.std.proofs.Common.{◌≡◌, ℕ, ℤ, Bool, List, [], ◌∷◌, ◌++◌, Option, Some, None, map, refl, sym, ap, ◌∙◌}
+use Rattle.std.specs.Option.{option_map}
 use Rattle.oxml_base.specs.declared.span.Span.{Span}
 use Rattle.oxml_base.specs.declared.literal.Lit.{Lit}
 use Rattle.ml_tree.specs.declared.words.Words.{Words}
@@ -18,11 +19,9 @@ use Rattle.ml_typing.specs.Written.{Names}
 use Rattle.hm_steps.specs.Blocks.{field_is}
 use Rattle.ml_typing.specs.Rows.{Part, Row, FieldPart, equation, node_is, declared_field, pattern, pattern_kind, field_pattern, pattern_row, pattern_field, pattern_whole, part_of, field_part}
 
-pub con : (names : Names) (name : ConName) (q : Pat) → pattern_kind names (P.Con name (Some q)) ≡ pattern_row names (p.Con name (Some (pattern names q)))
-con names name q = ap (pattern_kind names) (sym (P.rolls-Con name (Some q))) ∙ fold-roll-PatKind Row FieldPart Part (pattern_row names) pattern_field pattern_whole (p.Con name (Some q))
-
-pub con_alone : (names : Names) (name : ConName) → pattern_kind names (P.Con name None) ≡ pattern_row names (p.Con name None)
-con_alone names name = ap (pattern_kind names) (sym (P.rolls-Con name None)) ∙ fold-roll-PatKind Row FieldPart Part (pattern_row names) pattern_field pattern_whole (p.Con name None)
+pub con : (names : Names) (name : ConName) (arg : Option Pat) → pattern_kind names (P.Con name arg) ≡ pattern_row names (p.Con name (option_map (pattern names) arg))
+con names name None = ap (pattern_kind names) (sym (P.rolls-Con name None)) ∙ fold-roll-PatKind Row FieldPart Part (pattern_row names) pattern_field pattern_whole (p.Con name None)
+con names name (Some q) = ap (pattern_kind names) (sym (P.rolls-Con name (Some q))) ∙ fold-roll-PatKind Row FieldPart Part (pattern_row names) pattern_field pattern_whole (p.Con name (Some q))
 
 pub cons : (names : Names) (q u : Pat) → pattern_kind names (P.Cons q u) ≡ pattern_row names (p.Cons (pattern names q) (pattern names u))
 cons names q u = ap (pattern_kind names) (sym (P.rolls-Cons q u)) ∙ fold-roll-PatKind Row FieldPart Part (pattern_row names) pattern_field pattern_whole (p.Cons q u)
@@ -101,7 +100,3 @@ none_compared names (p.Or q u) n = refl
 none_compared names (p.Named q name) n = refl
 none_compared names (p.Typed q ty) n = refl
 none_compared names (p.Paren q) n = refl
-
--- a constructor whose argument is known by another name
-pub con_at : (kind : PatKind) (name : ConName) (arg other : Option Pat) → kind ≡ P.Con name arg → arg ≡ other → kind ≡ P.Con name other
-con_at kind name arg other is same = is ∙ ap (λ z. P.Con name z) same

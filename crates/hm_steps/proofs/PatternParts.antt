@@ -1,5 +1,6 @@
 -- The steps of the parts of a pattern, kind by kind.
 use Rattle.std.proofs.Common.{◌≡◌, ℕ, ℤ, Bool, List, ◌++◌, map, Option, Some, None, sym, ap, ◌∙◌}
+use Rattle.std.specs.Option.{option_map}
 use Rattle.oxml_base.specs.declared.span.Span.{Span}
 use Rattle.oxml_base.specs.declared.literal.Lit.{Lit}
 use Rattle.ml_tree.specs.declared.words.Words.{Words}
@@ -11,15 +12,12 @@ use Rattle.ml_tree.specs.declared.pattern.PatKind.{PatKind}
 use Rattle.ml_tree.specs.declared.pattern.PatKind.TheVariants as P
 use Rattle.ml_typing.specs.declared.equation.Step.{Step}
 use Rattle.ml_typing.specs.Written.{Names}
-use Rattle.ml_typing.specs.Rows.{pattern, pattern_kind, field_pattern, field_parts, steps_of, all_steps}
+use Rattle.ml_typing.specs.Rows.{pattern, pattern_kind, field_pattern, field_parts, steps_of, steps_of_any, all_steps}
 use Rattle.hm_steps.proofs.PatternLayers as L
 use Rattle.hm_steps.proofs.Walks.{two, nothing, of_kind}
 
-pub con : (names : Names) (kind : PatKind) (name : ConName) (q : Pat) (q' : Pat) (arg : Option Pat) (n : ℕ) (old new : List Step) → kind ≡ P.Con name arg → arg ≡ Some q → q' ≡ q → new ≡ old ++ steps_of (pattern names q') → new ≡ old ++ (pattern_kind names kind).before n
-con names kind name q q' arg n old new is some same_q e = of_kind (pattern_kind names) kind _ _ n old new (is ∙ ap (λ z. P.Con name z) some) (L.con names name q) (e ∙ ap (λ z. old ++ steps_of (pattern names z)) same_q)
-
-pub con_alone : (names : Names) (kind : PatKind) (name : ConName) (arg : Option Pat) (n : ℕ) (old : List Step) → kind ≡ P.Con name arg → arg ≡ None → old ≡ old ++ (pattern_kind names kind).before n
-con_alone names kind name arg n old is none = of_kind (pattern_kind names) kind _ _ n old old (is ∙ ap (λ z. P.Con name z) none) (L.con_alone names name) (nothing old)
+pub con : (names : Names) (kind : PatKind) (name : ConName) (arg : Option Pat) (n : ℕ) (old new : List Step) → kind ≡ P.Con name arg → new ≡ old ++ steps_of_any (option_map (pattern names) arg) → new ≡ old ++ (pattern_kind names kind).before n
+con names kind name arg n old new is e = of_kind (pattern_kind names) kind _ _ n old new is (L.con names name arg) e
 
 pub cons : (names : Names) (kind : PatKind) (q u : Pat) (q' : Pat) (u' : Pat) (n : ℕ) (old mid new : List Step) → kind ≡ P.Cons q u → q' ≡ q → u' ≡ u → mid ≡ old ++ steps_of (pattern names q') → new ≡ mid ++ steps_of (pattern names u') → new ≡ old ++ (pattern_kind names kind).before n
 cons names kind q u q' u' n old mid new is same_q same_u e f = of_kind (pattern_kind names) kind _ _ n old new is (L.cons names q u) (two old mid new _ _ (e ∙ ap (λ z. old ++ steps_of (pattern names z)) same_q) (f ∙ ap (λ z. mid ++ steps_of (pattern names z)) same_u))

@@ -27,6 +27,11 @@ pub if_ok : {A X : Type 0} {P Q : A → Type 0} (r : Result A X) → ((x : A) �
 if_ok (Ok x) f h = f x h
 if_ok (Err e) f h = tt
 
+-- the same, of each of many
+pub if_ok_each : {A B X : Type 0} {P : A → Type 0} {Q : B → A → Type 0} (r : Result A X) → ((x : A) (b : B) → P x → Q b x) → IfOk r P → IfOk r (λ x. (b : B) → Q b x)
+if_ok_each (Ok x) f h = λ b. f x b h
+if_ok_each (Err e) f h = tt
+
 -- an equation on a part, where the part and the term are known by other names
 pub pattern_is : (names : Names) (a q : Pat) (right term : Term) → a ≡ q → right ≡ term → equation (out-Pat a).span (Node (out-Pat a).id) right ≡ node_is (pattern names q) term
 pattern_is names a q right term same is = P.is_node names a right ∙ (ap (node_is (pattern names a)) is ∙ ap (λ z. node_is (pattern names z) term) same)
@@ -46,6 +51,9 @@ alone start es e f none grown g = grown ∙ (ap (λ z. z ++ e ∷ []) none ∙ a
 
 pub first_then : (es gs : List Equation) (e f : Equation) (rest others : List Equation) → es ≡ e ∷ [] → e ≡ f → gs ≡ es ++ rest → rest ≡ others → gs ≡ f ∷ others
 first_then es gs e f rest others h g grown same = grown ∙ (ap (λ z. z ++ rest) h ∙ (ap (λ z. z ∷ rest) g ∙ ap (λ z. f ∷ z) same))
+
+pub followed : (es gs known rest others : List Equation) → es ≡ known → gs ≡ es ++ rest → rest ≡ others → gs ≡ known ++ others
+followed es gs known rest others h grown same = grown ∙ (ap (λ z. z ++ rest) h ∙ ap (λ z. known ++ z) same)
 
 pub after_none : (start es rest others : List Equation) → start ≡ [] → es ≡ start ++ rest → rest ≡ others → es ≡ others
 after_none start es rest others none grown same = grown ∙ (ap (λ z. z ++ rest) none ∙ same)

@@ -1,5 +1,5 @@
 -- The steps of one arm, and the names that the fields of a record pattern bind.
-use Rattle.std.specs.Prelude.{ℕ, List, [], ◌∷◌, ◌++◌, map}
+use Rattle.std.specs.Prelude.{ℕ, List, [], ◌∷◌, ◌++◌, Option, Some, None}
 use Rattle.ml_tree.specs.declared.pattern.FieldPat.{FieldPat, fold-FieldPat}
 use Rattle.ml_typing.specs.declared.equation.Term.{Term}
 use Rattle.ml_typing.specs.declared.equation.Equation.{Equation}
@@ -19,6 +19,11 @@ arm_is result a = guard_is a.guard ++ node_is a.body result ∷ []
 -- the nodes below a field of a record pattern that bind a name
 abbrev pub binders_of_field : FieldPat → List ℕ
 binders_of_field f = fold-FieldPat (ℕ → List ℕ) (List ℕ) (List ℕ) kind_binders field_binders whole_binders f
+
+-- those of a part that may not be there
+abbrev pub binders_of_any : Option (List ℕ) → List ℕ
+binders_of_any None = []
+binders_of_any (Some ns) = ns
 
 -- a field of a record has its declared type
 abbrev pub field_is : Names → ℕ → FieldPart → Equation

@@ -1,10 +1,12 @@
 //! The names that an item binds.
 ghost use Rattle.std.specs.Prelude.{◌≡◌, ◌++◌, map, OnOk, IfOk};
 ghost use Rattle.ml_typing.specs.Steps.{binders, bind_binders, kind_names, joined};
-ghost use Rattle.hm_steps.specs.Blocks.{binders_of_field};
+ghost use Rattle.std.specs.Option.{option_map};
+ghost use Rattle.hm_steps.specs.Blocks.{binders_of_field, binders_of_any};
 
 use ml_tree::{Bind, FieldPat, Item, ItemKind, Pat, PatKind};
 use oxml_base::{Items, NoMemory};
+use sqlite_items::Boxed;
 use std::alloc::Global;
 
 /// The numbers of the nodes of an item that bind its names.
@@ -40,11 +42,8 @@ fn binders(q: &Pat, numbers: &mut Items<u32>) -> Result<(), NoMemory>
             numbers.push(q.id)?;
             Ok(())
         }
-        PatKind::Con {
-            name: _,
-            arg: Some(inner),
-        } => {
-            binders(inner.get(), numbers)?;
+        PatKind::Con { name: _, arg } => {
+            argument_binders(arg, numbers)?;
             Ok(())
         }
         PatKind::Cons(first, second) => {
@@ -82,11 +81,23 @@ fn binders(q: &Pat, numbers: &mut Items<u32>) -> Result<(), NoMemory>
             binders(inner.get(), numbers)?;
             Ok(())
         }
-        PatKind::Con { name: _, arg: None } => Ok(()),
         PatKind::Any => Ok(()),
         PatKind::Int(_) => Ok(()),
         PatKind::Char(_) => Ok(()),
         PatKind::Text(_) => Ok(()),
+    }
+}
+
+#[cycle(binders)]
+fn argument_binders(arg: &Option<Boxed<Pat>>, numbers: &mut Items<u32>) -> Result<(), NoMemory>
+    ensures { OnOk result (numbers.new ≡ numbers.old ++ binders_of_any (option_map binders arg.now)) }
+{
+    match arg {
+        Some(inner) => {
+            binders(inner.get(), numbers)?;
+            Ok(())
+        }
+        None => Ok(()),
     }
 }
 

@@ -1,10 +1,11 @@
 //! The equations of an expression's own row.
 ghost use Rattle.std.specs.Prelude.{◌≡◌, ℕ, [], ◌∷◌, ◌++◌, map, IfOk};
+ghost use Rattle.std.specs.Option.{option_map};
 ghost use Rattle.ml_typing.specs.declared.equation.Unknown.TheVariants.{Node};
 ghost use Rattle.ml_typing.specs.declared.equation.Term.TheVariants.{Of, Tuple};
 ghost use Rattle.ml_typing.specs.Written.{Names};
-ghost use Rattle.ml_typing.specs.Rows.{equation, type_of, at, each_is, fields_are};
-ghost use Rattle.ml_typing.specs.Steps.{expression, expr_kind, field_expr, operator, both, last_is};
+ghost use Rattle.ml_typing.specs.Rows.{equation, type_of, at, each_is, argument_is, fields_are};
+ghost use Rattle.ml_typing.specs.Steps.{expression, expr_kind, field_expr, operator, both, branch_is, last_is};
 ghost use Rattle.ml_typing.specs.Typing.{names_of};
 
 use crate::applications::apply_row;
@@ -36,15 +37,11 @@ pub fn row(
         ExprKind::Int(_) => one(alloc, span, own, int(alloc)),
         ExprKind::Char(_) => one(alloc, span, own, char(alloc)),
         ExprKind::Text(_) => one(alloc, span, own, string(alloc)),
-        ExprKind::Name(_) => one(alloc, span, own, name_term(s, n)?),
-        ExprKind::Path(_, _) => one(alloc, span, own, name_term(s, n)?),
-        ExprKind::Con { name, arg: None } => one(alloc, span, own, con_term(alloc, s, n, *name)?),
-        ExprKind::Con {
-            name,
-            arg: Some(inner),
-        } => {
+        ExprKind::Name(_) => one(alloc, span, own, name_term(alloc, s, n)),
+        ExprKind::Path(_, _) => one(alloc, span, own, name_term(alloc, s, n)),
+        ExprKind::Con { name, arg } => {
             let first = one(alloc, span, own, con_term(alloc, s, n, *name)?)?;
-            part_is(first, inner.get(), argument(s, n)?)
+            argument_is(first, alloc, s, n, arg)
         }
         ExprKind::Cons(first, rest) => {
             let list = one(alloc, span, own, list_of(alloc, fresh(n, 0))?)?;
@@ -57,12 +54,12 @@ pub fn row(
             elements(first, n, list.as_slice())
         }
         ExprKind::Fields(list) => {
-            let first = one(alloc, span, own, record_term(s, n)?)?;
-            field_types(first, s, item, n, list.as_slice())
+            let first = one(alloc, span, own, record_term(alloc, s, n))?;
+            field_types(first, alloc, s, item, n, list.as_slice())
         }
         ExprKind::Field(inner, _) => {
-            let first = one(alloc, span, own, field_term(s, n, n)?)?;
-            part_is(first, inner.get(), record_term(s, n)?)
+            let first = one(alloc, span, own, field_term(alloc, s, n, n))?;
+            part_is(first, inner.get(), record_term(alloc, s, n))
         }
         ExprKind::Index(text, place) => {
             let first = one(alloc, span, own, char(alloc))?;
@@ -77,15 +74,10 @@ pub fn row(
             let first = one(alloc, span, own, int(alloc))?;
             part_is(first, inner.get(), int(alloc))
         }
-        ExprKind::If(condition, branch, None) => {
+        ExprKind::If(condition, branch, other) => {
             let first = part_is(Items::new(alloc), condition.get(), bool(alloc))?;
             let second = part_is(first, branch.get(), node(n))?;
-            and(second, span, own, unit(alloc))
-        }
-        ExprKind::If(condition, branch, Some(other)) => {
-            let first = part_is(Items::new(alloc), condition.get(), bool(alloc))?;
-            let second = part_is(first, branch.get(), node(n))?;
-            part_is(second, other.get(), node(n))
+            branch_is(second, alloc, n, span, other)
         }
         ExprKind::Seq(list) => last_is(alloc, n, list.as_slice()),
         ExprKind::Match(_, arms) => arms_are(Items::new(alloc), alloc, arms.as_slice(), own),
@@ -100,7 +92,7 @@ pub fn row(
             part_is(first, inner.get(), node(n))
         }
         ExprKind::Borrow { name: _, of, body } => {
-            let first = one(alloc, *of, Unknown::Binder(n), name_term(s, n)?)?;
+            let first = one(alloc, *of, Unknown::Binder(n), name_term(alloc, s, n))?;
             part_is(first, body.get(), node(n))
         }
         ExprKind::Let {
@@ -123,6 +115,38 @@ pub fn part_is(list: Items<Equation>, e: &Expr, right: Term) -> Result<Items<Equ
     ensures { IfOk result (λ es. es ≡ list ++ equation e.now.span (Node e.now.id) right ∷ []) }
 {
     and(list, e.span, Unknown::Node(e.id), right)
+}
+
+/// The argument of a constructor has the type of its field, or the product of its fields' types.
+fn argument_is(
+    list: Items<Equation>,
+    alloc: Global,
+    s: &Scoped,
+    n: u32,
+    arg: &Option<Boxed<Expr>>,
+) -> Result<Items<Equation>, NoMemory>
+    ensures { IfOk result (λ es. (item : ℕ) → es ≡ list ++ argument_is (names_of s.now.refs s.now.types item) n (option_map (expression (names_of s.now.refs s.now.types item)) arg.now)) }
+{
+    match arg {
+        Some(inner) => part_is(list, inner.get(), argument(alloc, s, n)),
+        None => Ok(list),
+    }
+}
+
+/// An `else` branch has the node's type, and without one the node is `unit`.
+fn branch_is(
+    list: Items<Equation>,
+    alloc: Global,
+    n: u32,
+    span: Span,
+    other: &Option<Boxed<Expr>>,
+) -> Result<Items<Equation>, NoMemory>
+    ensures { IfOk result (λ es. (names : Names) → es ≡ list ++ branch_is n span (option_map (expression names) other.now)) }
+{
+    match other {
+        Some(inner) => part_is(list, inner.get(), node(n)),
+        None => and(list, span, Unknown::Node(n), unit(alloc)),
+    }
 }
 
 /// The product of the types of expressions.
@@ -150,6 +174,7 @@ fn elements(list: Items<Equation>, n: u32, parts: &[Expr]) -> Result<Items<Equat
 /// Each field has its declared type.
 fn field_types(
     list: Items<Equation>,
+    alloc: Global,
     s: &Scoped,
     item: u32,
     n: u32,
@@ -159,7 +184,7 @@ fn field_types(
 {
     let mut all = list;
     for field in fields {
-        all = part_is(all, &field.expr, field_term(s, field.id, n)?)?;
+        all = part_is(all, &field.expr, field_term(alloc, s, field.id, n))?;
     }
     Ok(all)
 }

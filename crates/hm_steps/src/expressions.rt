@@ -15,6 +15,7 @@ use crate::patterns::{field_step, params, pattern, push};
 use ml_tree::{Arm, Bind, Expr, ExprKind, FieldExpr, Scoped};
 use ml_typing::{Step, Unknown};
 use oxml_base::{Items, NoMemory, Span};
+use sqlite_items::Boxed;
 use std::alloc::Global;
 
 /// Appends the steps of an expression.
@@ -52,11 +53,8 @@ fn parts(
     ensures { OnOk result (steps.new ≡ steps.old ++ (expr_kind (names_of s.now.refs s.now.types item) kind.now).before n) }
 {
     match kind {
-        ExprKind::Con {
-            name: _,
-            arg: Some(inner),
-        } => {
-            expression(alloc, s, item, inner.get(), steps)?;
+        ExprKind::Con { name: _, arg } => {
+            optional(alloc, s, item, arg, steps)?;
             Ok(())
         }
         ExprKind::Cons(first, second) => {
@@ -95,15 +93,10 @@ fn parts(
             expressions(alloc, s, item, args.as_slice(), steps)?;
             Ok(())
         }
-        ExprKind::If(condition, branch, None) => {
+        ExprKind::If(condition, branch, other) => {
             expression(alloc, s, item, condition.get(), steps)?;
             expression(alloc, s, item, branch.get(), steps)?;
-            Ok(())
-        }
-        ExprKind::If(condition, branch, Some(other)) => {
-            expression(alloc, s, item, condition.get(), steps)?;
-            expression(alloc, s, item, branch.get(), steps)?;
-            expression(alloc, s, item, other.get(), steps)?;
+            optional(alloc, s, item, other, steps)?;
             Ok(())
         }
         ExprKind::Let {
@@ -170,12 +163,31 @@ fn parts(
             expression(alloc, s, item, inner.get(), steps)?;
             Ok(())
         }
-        ExprKind::Con { name: _, arg: None } => Ok(()),
         ExprKind::Int(_) => Ok(()),
         ExprKind::Char(_) => Ok(()),
         ExprKind::Text(_) => Ok(()),
         ExprKind::Name(_) => Ok(()),
         ExprKind::Path(_, _) => Ok(()),
+    }
+}
+
+/// Appends the steps of a constructor's argument or of an `else` branch.
+#[cycle(expressions)]
+fn optional(
+    alloc: Global,
+    s: &Scoped,
+    item: u32,
+    part: &Option<Boxed<Expr>>,
+    steps: &mut Items<Step>,
+) -> Result<(), NoMemory>
+    ensures { OnOk result (steps.new ≡ steps.old ++ steps_of_any (option_map (expression (names_of s.now.refs s.now.types item)) part.now)) }
+{
+    match part {
+        Some(inner) => {
+            expression(alloc, s, item, inner.get(), steps)?;
+            Ok(())
+        }
+        None => Ok(()),
     }
 }
 

@@ -10,8 +10,7 @@ use ml_typing::Step;
 use oxml_base::{Items, NoMemory};
 use std::alloc::Global;
 
-/// The steps of an item: those of its binds, then its own. A program that does not fit its references
-/// is answered by `NoMemory`.
+/// The steps of an item: those of its binds, then its own.
 pub fn item_steps(alloc: Global, s: &Scoped, item: &Item) -> Result<Items<Step>, NoMemory>
     ensures { IfOk result (λ steps. steps ≡ item_steps (names_of s.now.refs s.now.types item.now.id) item.now) }
 {

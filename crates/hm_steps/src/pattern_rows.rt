@@ -1,9 +1,10 @@
 //! The equations of a pattern's own row.
-ghost use Rattle.std.specs.Prelude.{◌≡◌, [], ◌∷◌, ◌++◌, map, IfOk};
+ghost use Rattle.std.specs.Prelude.{◌≡◌, ℕ, [], ◌∷◌, ◌++◌, map, IfOk};
+ghost use Rattle.std.specs.Option.{option_map};
 ghost use Rattle.ml_typing.specs.declared.equation.Unknown.TheVariants.{Node};
 ghost use Rattle.ml_typing.specs.declared.equation.Term.TheVariants.{Tuple};
 ghost use Rattle.ml_typing.specs.Written.{Names};
-ghost use Rattle.ml_typing.specs.Rows.{equation, pattern, pattern_kind, field_pattern, type_of, at, each_is, fields_are};
+ghost use Rattle.ml_typing.specs.Rows.{equation, pattern, pattern_kind, field_pattern, type_of, at, each_is, argument_is, fields_are};
 ghost use Rattle.ml_typing.specs.Steps.{param_parts};
 ghost use Rattle.ml_typing.specs.Typing.{names_of};
 
@@ -13,6 +14,7 @@ use crate::written::written;
 use ml_tree::{FieldPat, Param, Pat, PatKind, Scoped};
 use ml_typing::{Equation, Term, Unknown};
 use oxml_base::{Items, NoMemory, Span};
+use sqlite_items::Boxed;
 use std::alloc::Global;
 
 /// The equations of the row of a pattern's node, by its number, its span and its kind. The node's own
@@ -34,13 +36,9 @@ pub fn row(
         PatKind::Int(_) => one(alloc, span, own, int(alloc)),
         PatKind::Char(_) => one(alloc, span, own, char(alloc)),
         PatKind::Text(_) => one(alloc, span, own, string(alloc)),
-        PatKind::Con { name, arg: None } => one(alloc, span, own, con_term(alloc, s, n, *name)?),
-        PatKind::Con {
-            name,
-            arg: Some(inner),
-        } => {
+        PatKind::Con { name, arg } => {
             let first = one(alloc, span, own, con_term(alloc, s, n, *name)?)?;
-            part_is(first, inner.get(), argument(s, n)?)
+            argument_is(first, alloc, s, n, arg)
         }
         PatKind::Cons(first, rest) => {
             let list = one(alloc, span, own, list_of(alloc, fresh(n, 0))?)?;
@@ -53,8 +51,8 @@ pub fn row(
             elements(first, n, list.as_slice())
         }
         PatKind::Fields { list, rest: _ } => {
-            let first = one(alloc, span, own, record_term(s, n)?)?;
-            field_types(first, s, item, n, list.as_slice())
+            let first = one(alloc, span, own, record_term(alloc, s, n))?;
+            field_types(first, alloc, s, item, n, list.as_slice())
         }
         PatKind::Or(one, other) => {
             let first = part_is(Items::new(alloc), one.get(), node(n))?;
@@ -77,6 +75,22 @@ fn part_is(list: Items<Equation>, q: &Pat, right: Term) -> Result<Items<Equation
     ensures { IfOk result (λ es. es ≡ list ++ equation q.now.span (Node q.now.id) right ∷ []) }
 {
     and(list, q.span, Unknown::Node(q.id), right)
+}
+
+/// The argument of a constructor has the type of its field, or the product of its fields' types.
+fn argument_is(
+    list: Items<Equation>,
+    alloc: Global,
+    s: &Scoped,
+    n: u32,
+    arg: &Option<Boxed<Pat>>,
+) -> Result<Items<Equation>, NoMemory>
+    ensures { IfOk result (λ es. (item : ℕ) → es ≡ list ++ argument_is (names_of s.now.refs s.now.types item) n (option_map (pattern (names_of s.now.refs s.now.types item)) arg.now)) }
+{
+    match arg {
+        Some(inner) => part_is(list, inner.get(), argument(alloc, s, n)),
+        None => Ok(list),
+    }
 }
 
 /// The product of the types of patterns.
@@ -115,6 +129,7 @@ fn elements(list: Items<Equation>, n: u32, parts: &[Pat]) -> Result<Items<Equati
 /// Each field has its declared type.
 fn field_types(
     list: Items<Equation>,
+    alloc: Global,
     s: &Scoped,
     item: u32,
     n: u32,
@@ -124,7 +139,7 @@ fn field_types(
 {
     let mut all = list;
     for field in fields {
-        all = part_is(all, &field.pat, field_term(s, field.id, n)?)?;
+        all = part_is(all, &field.pat, field_term(alloc, s, field.id, n))?;
     }
     Ok(all)
 }

@@ -1,9 +1,10 @@
 //! The steps of patterns: those of a pattern's parts from left to right, then its own.
 ghost use Rattle.std.specs.Prelude.{◌≡◌, ℕ, [], ◌∷◌, ◌++◌, None, Some, map, OnOk, IfOk};
+ghost use Rattle.std.specs.Option.{option_map};
 ghost use Rattle.ml_typing.specs.declared.equation.Unknown.TheVariants.{Node};
 ghost use Rattle.ml_typing.specs.declared.equation.Term.TheVariants.{Of};
 ghost use Rattle.ml_typing.specs.Written.{Names};
-ghost use Rattle.ml_typing.specs.Rows.{equation, pattern, pattern_kind, field_pattern, steps_and, steps_of, all_steps, field_parts, scrutinee_is};
+ghost use Rattle.ml_typing.specs.Rows.{equation, pattern, pattern_kind, field_pattern, steps_and, steps_of, steps_of_any, all_steps, field_parts, scrutinee_is};
 ghost use Rattle.ml_typing.specs.Steps.{param_parts};
 ghost use Rattle.ml_typing.specs.Typing.{names_of};
 
@@ -12,6 +13,7 @@ use crate::terms::{and, node, one};
 use ml_tree::{FieldPat, Param, Pat, PatKind, Scoped};
 use ml_typing::{Equation, Step, Term, Unknown};
 use oxml_base::{Items, NoMemory, Span};
+use sqlite_items::Boxed;
 use std::alloc::Global;
 
 /// One step more.
@@ -77,11 +79,8 @@ fn parts(
     ensures { OnOk result ((n : ℕ) → steps.new ≡ steps.old ++ (pattern_kind (names_of s.now.refs s.now.types item) kind.now).before n) }
 {
     match kind {
-        PatKind::Con {
-            name: _,
-            arg: Some(inner),
-        } => {
-            pattern(alloc, s, item, inner.get(), None, steps)?;
+        PatKind::Con { name: _, arg } => {
+            argument(alloc, s, item, arg, steps)?;
             Ok(())
         }
         PatKind::Cons(first, second) => {
@@ -118,12 +117,31 @@ fn parts(
             pattern(alloc, s, item, inner.get(), None, steps)?;
             Ok(())
         }
-        PatKind::Con { name: _, arg: None } => Ok(()),
         PatKind::Any => Ok(()),
         PatKind::Name(_, _) => Ok(()),
         PatKind::Int(_) => Ok(()),
         PatKind::Char(_) => Ok(()),
         PatKind::Text(_) => Ok(()),
+    }
+}
+
+/// Appends the steps of a constructor's argument.
+#[cycle(patterns)]
+fn argument(
+    alloc: Global,
+    s: &Scoped,
+    item: u32,
+    arg: &Option<Boxed<Pat>>,
+    steps: &mut Items<Step>,
+) -> Result<(), NoMemory>
+    ensures { OnOk result (steps.new ≡ steps.old ++ steps_of_any (option_map (pattern (names_of s.now.refs s.now.types item)) arg.now)) }
+{
+    match arg {
+        Some(inner) => {
+            pattern(alloc, s, item, inner.get(), None, steps)?;
+            Ok(())
+        }
+        None => Ok(()),
     }
 }
 

@@ -1,7 +1,7 @@
 //! Terms and equations, and lists of them.
 ghost use Rattle.std.specs.Prelude.{◌≡◌, [], ◌∷◌, ◌++◌, IfOk};
 ghost use Rattle.ml_typing.specs.Rows.{int, char, string, bool, unit, list_of, at, equation};
-ghost use Rattle.ml_typing.specs.declared.equation.Term.TheVariants.{Of};
+ghost use Rattle.ml_typing.specs.declared.equation.Term.TheVariants.{Of, Tuple};
 ghost use Rattle.ml_typing.specs.declared.equation.Unknown.TheVariants.{Node};
 
 use ml_typing::{Equation, Term, Unknown};
@@ -52,6 +52,13 @@ pub fn list_of(alloc: Global, element: Term) -> Result<Term, NoMemory>
     let mut args = Items::new(alloc);
     args.push(element)?;
     Ok(Term::Con(5, args))
+}
+
+/// What stands for the type of a name that has no reference.
+pub fn nothing(alloc: Global) -> Term
+    ensures { result ≡ Tuple [] }
+{
+    Term::Tuple(Items::new(alloc))
 }
 
 /// The type of a node.

@@ -3,6 +3,7 @@ ghost use Rattle.std.specs.Prelude.{◌≡◌, Some, map, IfOk};
 ghost use Rattle.ml_typing.specs.Written.{written, written_name};
 ghost use Rattle.ml_typing.specs.Typing.{find, names_of};
 
+use crate::terms::nothing;
 use ml_tree::{Scoped, TyExpr, TyKind, TyRef};
 use ml_typing::{Term, Unknown};
 use oxml_base::{Items, NoMemory};
@@ -15,10 +16,10 @@ pub fn written(alloc: Global, s: &Scoped, item: u32, ty: &TyExpr) -> Result<Term
     ensures { IfOk result (λ t. t ≡ written (names_of s.now.refs s.now.types item) ty.now) }
 {
     match &ty.kind {
-        TyKind::Var(_) => named(s, item, ty.id, Items::new(alloc)),
+        TyKind::Var(_) => Ok(named(alloc, s, item, ty.id, Items::new(alloc))),
         TyKind::Con { name: _, args } => {
             let terms = all_written(alloc, s, item, args.as_slice())?;
-            named(s, item, ty.id, terms)
+            Ok(named(alloc, s, item, ty.id, terms))
         }
         TyKind::Tuple(parts) => {
             let terms = all_written(alloc, s, item, parts.as_slice())?;
@@ -51,22 +52,22 @@ fn all_written(
     Ok(terms)
 }
 
-/// What a type expression names. Each that is a name or a variable has a reference.
-fn type_target(s: &Scoped, id: u32) -> Result<TyRef, NoMemory>
-    ensures { IfOk result (λ r. find s.now.types id ≡ Some r) }
+/// What a type expression names.
+fn type_target(s: &Scoped, id: u32) -> Option<TyRef>
+    ensures { result ≡ find s.now.types id }
 {
-    match s.type_target(id) {
-        Some(reference) => Ok(reference),
-        None => Err(NoMemory),
-    }
+    s.type_target(id)
 }
 
 /// What a type expression names, at arguments.
-fn named(s: &Scoped, item: u32, id: u32, args: Items<Term>) -> Result<Term, NoMemory>
-    ensures { IfOk result (λ t. t ≡ written_name (names_of s.now.refs s.now.types item) args (find s.now.types id)) }
+fn named(alloc: Global, s: &Scoped, item: u32, id: u32, args: Items<Term>) -> Term
+    ensures { result ≡ written_name (names_of s.now.refs s.now.types item) args (find s.now.types id) }
 {
-    match type_target(s, id)? {
-        TyRef::Decl(number) => Ok(Term::Con(number, args)),
-        TyRef::Var(number) => Ok(Term::Of(Unknown::Fresh(item, number))),
+    let Some(reference) = type_target(s, id) else {
+        return nothing(alloc)
+    };
+    match reference {
+        TyRef::Decl(number) => Term::Con(number, args),
+        TyRef::Var(number) => Term::Of(Unknown::Fresh(item, number)),
     }
 }

@@ -5,7 +5,6 @@ use Rattle.hm_steps.specs.Blocks.{binders_of_field}
 use Rattle.hm_steps.proofs.Lists.{block_step, block_end}
 use Rattle.hm_steps.proofs.Walks.{two, nothing}
 use Rattle.hm_steps.proofs.BinderLayers as B
-use Rattle.hm_steps.proofs.PatternLayers as L
 use Rattle.hm_steps.proofs.binders.+binders.Goals as goal
 
 pub part_binders-loop-q-preserved : goal.part_binders-loop-q-preserved
@@ -23,11 +22,11 @@ field_binders-returns t c = block_end (λ fs. joined (map binders_of_field fs)) 
 pub binders-returns-in_ok-push-in-Name : goal.binders-returns-in_ok-push-in-Name
 binders-returns-in_ok-push-in-Name t c = c.in_ok-push-in-Name.ensures.ok ∙ ap (λ z. c.args.numbers.now ++ z) (sym (B.by_kind c.args.q.now _ _ c.in-Name.is (B.name _ _)))
 
-pub binders-returns-in_ok-binders-in-Con-default-Some : goal.binders-returns-in_ok-binders-in-Con-default-Some
-binders-returns-in_ok-binders-in-Con-default-Some t c = c.in_ok-binders-in-Con-default-Some.ensures ∙ (ap (λ z. c.args.numbers.now ++ binders z) c.get.ensures ∙ ap (λ z. c.args.numbers.now ++ z) (sym (B.by_kind c.args.q.now _ _ (L.con_at _ _ _ _ c.in-Con-default-Some.is c.in-Con-default-Some.arg-is) (B.con _ _))))
+pub binders-returns-in_ok-argument_binders-in-Con : goal.binders-returns-in_ok-argument_binders-in-Con
+binders-returns-in_ok-argument_binders-in-Con t c = c.in_ok-argument_binders-in-Con.ensures ∙ ap (λ z. c.args.numbers.now ++ z) (sym (B.by_kind c.args.q.now _ _ c.in-Con.is (B.con _ _) ∙ B.con_binders _ _ _))
 
 pub binders-returns-in_ok-binders-in-Cons-2 : goal.binders-returns-in_ok-binders-in-Cons-2
-binders-returns-in_ok-binders-in-Cons-2 t c = two _ _ _ _ _ (c.in_ok-binders-in-Cons.ensures ∙ ap (λ z. c.args.numbers.now ++ binders z) c.get-in-Cons.ensures) (c.in_ok-binders-in-Cons-2.ensures ∙ ap (λ z. c.binders-in-Cons.new.numbers ++ binders z) c.get-in-Cons-2.ensures) ∙ ap (λ z. c.args.numbers.now ++ z) (sym (B.by_kind c.args.q.now _ _ c.in-Cons.is (B.cons _ _)))
+binders-returns-in_ok-binders-in-Cons-2 t c = two _ _ _ _ _ (c.in_ok-binders-in-Cons.ensures ∙ ap (λ z. c.args.numbers.now ++ binders z) c.get.ensures) (c.in_ok-binders-in-Cons-2.ensures ∙ ap (λ z. c.binders.new.numbers ++ binders z) c.get-in-Cons.ensures) ∙ ap (λ z. c.args.numbers.now ++ z) (sym (B.by_kind c.args.q.now _ _ c.in-Cons.is (B.cons _ _)))
 
 pub binders-returns-in_ok-binders-in-Or-2 : goal.binders-returns-in_ok-binders-in-Or-2
 binders-returns-in_ok-binders-in-Or-2 t c = two _ _ _ _ _ (c.in_ok-binders-in-Or.ensures ∙ ap (λ z. c.args.numbers.now ++ binders z) c.get-in-Or.ensures) (c.in_ok-binders-in-Or-2.ensures ∙ ap (λ z. c.binders-in-Or.new.numbers ++ binders z) c.get-in-Or-2.ensures) ∙ ap (λ z. c.args.numbers.now ++ z) (sym (B.by_kind c.args.q.now _ _ c.in-Or.is (B.either _ _)))
@@ -49,9 +48,6 @@ binders-returns-in_ok-binders-in-Typed t c = c.in_ok-binders-in-Typed.ensures �
 
 pub binders-returns-in_ok-binders-in-Paren : goal.binders-returns-in_ok-binders-in-Paren
 binders-returns-in_ok-binders-in-Paren t c = c.in_ok-binders-in-Paren.ensures ∙ (ap (λ z. c.args.numbers.now ++ binders z) c.get-in-Paren.ensures ∙ ap (λ z. c.args.numbers.now ++ z) (sym (B.by_kind c.args.q.now _ _ c.in-Paren.is (B.paren _))))
-
-pub binders-returns-in-Con-default-None : goal.binders-returns-in-Con-default-None
-binders-returns-in-Con-default-None t c = nothing c.args.numbers.now ∙ ap (λ z. c.args.numbers.now ++ z) (sym (B.by_kind c.args.q.now _ _ (L.con_at _ _ _ _ c.in-Con-default-None.is c.in-Con-default-None.arg-is) (B.con_alone _)))
 
 pub binders-returns-in-Any : goal.binders-returns-in-Any
 binders-returns-in-Any t c = nothing c.args.numbers.now ∙ ap (λ z. c.args.numbers.now ++ z) (sym (B.by_kind c.args.q.now _ _ c.in-Any.is (B.any)))

@@ -7,7 +7,7 @@ use Rattle.ml_typing.specs.Steps.{expression, expr_kind, field_expr, arm, arms_a
 use Rattle.ml_typing.specs.Typing.{names_of}
 use Rattle.hm_steps.proofs.ExpressionLayers as L
 use Rattle.hm_steps.proofs.Walks.{row_of_kind}
-use Rattle.hm_steps.proofs.RowParts.{if_ok, first, more, alone, first_then, after_none, parts_of_three, term_is, function_is, pattern_is, expression_is}
+use Rattle.hm_steps.proofs.RowParts.{if_ok, first, more, alone, first_then, followed, after_none, parts_of_three, term_is, function_is, pattern_is, expression_is}
 use Rattle.hm_steps.proofs.expression_rows.row.Goals as goal
 
 pub returns-in-Int : goal.returns-in-Int
@@ -25,30 +25,25 @@ returns-in-Text c =
     let names = names_of c.args.s.now.refs c.args.s.now.types c.args.item in
     if_ok _ (λ es h. row_of_kind (expr_kind names) c.args.kind.now _ _ c.args.n c.args.span es c.in-Text.is (L.text_value names _) (first _ _ _ h (term_is _ _ _ _ c.string.ensures))) c.one-in-Text.ensures
 
-pub returns-in_ok-name_term-in-Name : goal.returns-in_ok-name_term-in-Name
-returns-in_ok-name_term-in-Name c =
+pub returns-in-Name : goal.returns-in-Name
+returns-in-Name c =
     let names = names_of c.args.s.now.refs c.args.s.now.types c.args.item in
-    if_ok _ (λ es h. row_of_kind (expr_kind names) c.args.kind.now _ _ c.args.n c.args.span es c.in-Name.is (L.name names _) (first _ _ _ h (term_is _ _ _ _ c.in_ok-name_term-in-Name.ensures))) c.one-in-Name.ensures
+    if_ok _ (λ es h. row_of_kind (expr_kind names) c.args.kind.now _ _ c.args.n c.args.span es c.in-Name.is (L.name names _) (first _ _ _ h (term_is _ _ _ _ c.name_term.ensures))) c.one-in-Name.ensures
 
-pub returns-in_ok-name_term-in-Path : goal.returns-in_ok-name_term-in-Path
-returns-in_ok-name_term-in-Path c =
+pub returns-in-Path : goal.returns-in-Path
+returns-in-Path c =
     let names = names_of c.args.s.now.refs c.args.s.now.types c.args.item in
-    if_ok _ (λ es h. row_of_kind (expr_kind names) c.args.kind.now _ _ c.args.n c.args.span es c.in-Path.is (L.path names _ _) (first _ _ _ h (term_is _ _ _ _ c.in_ok-name_term-in-Path.ensures))) c.one-in-Path.ensures
+    if_ok _ (λ es h. row_of_kind (expr_kind names) c.args.kind.now _ _ c.args.n c.args.span es c.in-Path.is (L.path names _ _) (first _ _ _ h (term_is _ _ _ _ c.name_term-in-Path.ensures))) c.one-in-Path.ensures
 
-pub returns-in_ok-con_term-in-Con-default-None : goal.returns-in_ok-con_term-in-Con-default-None
-returns-in_ok-con_term-in-Con-default-None c =
+pub returns-in_ok-first-in-Con : goal.returns-in_ok-first-in-Con
+returns-in_ok-first-in-Con c =
     let names = names_of c.args.s.now.refs c.args.s.now.types c.args.item in
-    if_ok _ (λ es h. row_of_kind (expr_kind names) c.args.kind.now _ _ c.args.n c.args.span es (L.con_at _ _ _ _ c.in-Con-default-None.is c.in-Con-default-None.arg-is) (L.con_alone names _) (first _ _ _ h (term_is _ _ _ _ (c.in_ok-con_term-in-Con-default-None.ensures c.args.item)))) c.one-in-Con-default-None.ensures
-
-pub returns-in_ok-argument-in-Con-default-Some : goal.returns-in_ok-argument-in-Con-default-Some
-returns-in_ok-argument-in-Con-default-Some c =
-    let names = names_of c.args.s.now.refs c.args.s.now.types c.args.item in
-    if_ok _ (λ es h. row_of_kind (expr_kind names) c.args.kind.now _ _ c.args.n c.args.span es (L.con_at _ _ _ _ c.in-Con-default-Some.is c.in-Con-default-Some.arg-is) (L.con names _ _) (more _ es _ _ _ (first _ _ _ c.in_ok-first-in-Con-default-Some.ensures (term_is _ _ _ _ (c.in_ok-con_term-in-Con-default-Some.ensures c.args.item))) h (expression_is names _ _ _ _ c.get.ensures c.in_ok-argument-in-Con-default-Some.ensures))) c.part_is.ensures
+    if_ok _ (λ es h. row_of_kind (expr_kind names) c.args.kind.now _ _ c.args.n c.args.span es c.in-Con.is (L.con names _ _) (first_then _ es _ _ _ _ c.in_ok-first-in-Con.ensures (term_is _ _ _ _ (c.in_ok-con_term-in-Con.ensures c.args.item)) (h c.args.item) refl)) c.argument_is.ensures
 
 pub returns-in_ok-list_of-in-Cons-2 : goal.returns-in_ok-list_of-in-Cons-2
 returns-in_ok-list_of-in-Cons-2 c =
     let names = names_of c.args.s.now.refs c.args.s.now.types c.args.item in
-    if_ok _ (λ es h. row_of_kind (expr_kind names) c.args.kind.now _ _ c.args.n c.args.span es c.in-Cons.is (L.cons names _ _) (more _ es _ _ _ (more _ _ _ _ _ (first _ _ _ c.in_ok-list-in-Cons.ensures (term_is _ _ _ _ (c.in_ok-list_of-in-Cons.ensures ∙ ap list_of c.fresh.ensures))) c.in_ok-element-in-Cons.ensures (expression_is names _ _ _ _ c.get-in-Cons.ensures c.fresh-in-Cons.ensures)) h (expression_is names _ _ _ _ c.get-in-Cons-2.ensures (c.in_ok-list_of-in-Cons-2.ensures ∙ ap list_of c.fresh-in-Cons-2.ensures)))) c.part_is-in-Cons-2.ensures
+    if_ok _ (λ es h. row_of_kind (expr_kind names) c.args.kind.now _ _ c.args.n c.args.span es c.in-Cons.is (L.cons names _ _) (more _ es _ _ _ (more _ _ _ _ _ (first _ _ _ c.in_ok-list-in-Cons.ensures (term_is _ _ _ _ (c.in_ok-list_of-in-Cons.ensures ∙ ap list_of c.fresh.ensures))) c.in_ok-element-in-Cons.ensures (expression_is names _ _ _ _ c.get.ensures c.fresh-in-Cons.ensures)) h (expression_is names _ _ _ _ c.get-in-Cons.ensures (c.in_ok-list_of-in-Cons-2.ensures ∙ ap list_of c.fresh-in-Cons-2.ensures)))) c.part_is-in-Cons.ensures
 
 pub returns-in_ok-product-in-Tuple : goal.returns-in_ok-product-in-Tuple
 returns-in_ok-product-in-Tuple c =
@@ -63,12 +58,12 @@ returns-in_ok-first-in-List c =
 pub returns-in_ok-first-in-Fields : goal.returns-in_ok-first-in-Fields
 returns-in_ok-first-in-Fields c =
     let names = names_of c.args.s.now.refs c.args.s.now.types c.args.item in
-    if_ok _ (λ es h. row_of_kind (expr_kind names) c.args.kind.now _ _ c.args.n c.args.span es c.in-Fields.is (L.fields names _) (first_then _ es _ _ _ _ c.in_ok-first-in-Fields.ensures (term_is _ _ _ _ c.in_ok-record_term-in-Fields.ensures) h (ap (λ z. fields_are names c.args.n (map (field_expr names) z)) c.as_slice-in-Fields.ensures))) c.field_types.ensures
+    if_ok _ (λ es h. row_of_kind (expr_kind names) c.args.kind.now _ _ c.args.n c.args.span es c.in-Fields.is (L.fields names _) (first_then _ es _ _ _ _ c.in_ok-first-in-Fields.ensures (term_is _ _ _ _ c.record_term.ensures) h (ap (λ z. fields_are names c.args.n (map (field_expr names) z)) c.as_slice-in-Fields.ensures))) c.field_types.ensures
 
-pub returns-in_ok-record_term-in-Field : goal.returns-in_ok-record_term-in-Field
-returns-in_ok-record_term-in-Field c =
+pub returns-in_ok-first-in-Field : goal.returns-in_ok-first-in-Field
+returns-in_ok-first-in-Field c =
     let names = names_of c.args.s.now.refs c.args.s.now.types c.args.item in
-    if_ok _ (λ es h. row_of_kind (expr_kind names) c.args.kind.now _ _ c.args.n c.args.span es c.in-Field.is (L.field names _ _) (more _ es _ _ _ (first _ _ _ c.in_ok-first-in-Field.ensures (term_is _ _ _ _ c.in_ok-field_term-in-Field.ensures)) h (expression_is names _ _ _ _ c.get-in-Field.ensures c.in_ok-record_term-in-Field.ensures))) c.part_is-in-Field.ensures
+    if_ok _ (λ es h. row_of_kind (expr_kind names) c.args.kind.now _ _ c.args.n c.args.span es c.in-Field.is (L.field names _ _) (more _ es _ _ _ (first _ _ _ c.in_ok-first-in-Field.ensures (term_is _ _ _ _ c.field_term.ensures)) h (expression_is names _ _ _ _ c.get-in-Field.ensures c.record_term-in-Field.ensures))) c.part_is-in-Field.ensures
 
 pub returns-in_ok-second-in-Index : goal.returns-in_ok-second-in-Index
 returns-in_ok-second-in-Index c =
@@ -78,7 +73,7 @@ returns-in_ok-second-in-Index c =
 pub returns-in-Apply : goal.returns-in-Apply
 returns-in-Apply c =
     let names = names_of c.args.s.now.refs c.args.s.now.types c.args.item in
-    if_ok _ (λ es h. row_of_kind (expr_kind names) c.args.kind.now _ _ c.args.n c.args.span es c.in-Apply.is (L.apply names _ _) (h names ∙ (ap (λ z. node_is (expression names z) (Function (ats c.args.n 0 (map (expression names) c.as_slice-in-Apply.result.now)) (Of (Node c.args.n))) ∷ args_are c.args.n 0 (map (expression names) c.as_slice-in-Apply.result.now)) c.get-in-Apply.ensures ∙ ap (λ z. node_is (expression names c.in-Apply.function.now) (Function (ats c.args.n 0 (map (expression names) z)) (Of (Node c.args.n))) ∷ args_are c.args.n 0 (map (expression names) z)) c.as_slice-in-Apply.ensures))) c.apply_row.ensures
+    if_ok _ (λ es h. row_of_kind (expr_kind names) c.args.kind.now _ _ c.args.n c.args.span es c.in-Apply.is (L.apply names _ _) (h names ∙ (ap (λ z. node_is (expression names z) (Function (ats c.args.n 0 (map (expression names) c.as_slice-in-Apply.result.now)) (Of (Node c.args.n))) ∷ args_are c.args.n 0 (map (expression names) c.as_slice-in-Apply.result.now)) c.get-in-Apply.ensures ∙ ap (λ z. node_is (expression names c.in-Apply.function) (Function (ats c.args.n 0 (map (expression names) z)) (Of (Node c.args.n))) ∷ args_are c.args.n 0 (map (expression names) z)) c.as_slice-in-Apply.ensures))) c.apply_row.ensures
 
 pub returns-in-Binary : goal.returns-in-Binary
 returns-in-Binary c =
@@ -90,15 +85,10 @@ returns-in_ok-first-in-Minus c =
     let names = names_of c.args.s.now.refs c.args.s.now.types c.args.item in
     if_ok _ (λ es h. row_of_kind (expr_kind names) c.args.kind.now _ _ c.args.n c.args.span es c.in-Minus.is (L.minus names _) (more _ es _ _ _ (first _ _ _ c.in_ok-first-in-Minus.ensures (term_is _ _ _ _ c.int-in-Minus.ensures)) h (expression_is names _ _ _ _ c.get-in-Minus.ensures c.int-in-Minus-2.ensures))) c.part_is-in-Minus.ensures
 
-pub returns-in_ok-second-in-If-default-default-None : goal.returns-in_ok-second-in-If-default-default-None
-returns-in_ok-second-in-If-default-default-None c =
+pub returns-in_ok-second-in-If : goal.returns-in_ok-second-in-If
+returns-in_ok-second-in-If c =
     let names = names_of c.args.s.now.refs c.args.s.now.types c.args.item in
-    if_ok _ (λ es h. row_of_kind (expr_kind names) c.args.kind.now _ _ c.args.n c.args.span es (L.if_at _ _ _ _ _ c.in-If-default-default-None.is c.in-If-default-default-None.field-2-is) (L.if_alone names _ _) (more _ es _ _ _ (more _ _ (_ ∷ []) _ _ (alone _ _ _ _ c.new.ensures c.in_ok-first-in-If-default-default-None.ensures (expression_is names _ _ _ _ c.get-in-If-default-default-None.ensures c.bool.ensures)) c.in_ok-second-in-If-default-default-None.ensures (expression_is names _ _ _ _ c.get-in-If-default-default-None-2.ensures c.node.ensures)) h (term_is _ _ _ _ c.unit.ensures))) c.and.ensures
-
-pub returns-in_ok-second-in-If-default-default-Some : goal.returns-in_ok-second-in-If-default-default-Some
-returns-in_ok-second-in-If-default-default-Some c =
-    let names = names_of c.args.s.now.refs c.args.s.now.types c.args.item in
-    if_ok _ (λ es h. row_of_kind (expr_kind names) c.args.kind.now _ _ c.args.n c.args.span es (L.if_at _ _ _ _ _ c.in-If-default-default-Some.is c.in-If-default-default-Some.field-2-is) (L.if_else names _ _ _) (more _ es _ _ _ (more _ _ (_ ∷ []) _ _ (alone _ _ _ _ c.new-in-If-default-default-Some.ensures c.in_ok-first-in-If-default-default-Some.ensures (expression_is names _ _ _ _ c.get-in-If-default-default-Some.ensures c.bool-in-If-default-default-Some.ensures)) c.in_ok-second-in-If-default-default-Some.ensures (expression_is names _ _ _ _ c.get-in-If-default-default-Some-2.ensures c.node-in-If-default-default-Some.ensures)) h (expression_is names _ _ _ _ c.get-in-If-default-default-Some-3.ensures c.node-in-If-default-default-Some-2.ensures))) c.part_is-in-If-default-default-Some-3.ensures
+    if_ok _ (λ es h. row_of_kind (expr_kind names) c.args.kind.now _ _ c.args.n c.args.span es c.in-If.is (L.conditional names _ _ _) (followed _ es (_ ∷ _ ∷ []) _ _ (more _ _ (_ ∷ []) _ _ (alone _ _ _ _ c.new.ensures c.in_ok-first-in-If.ensures (expression_is names _ _ _ _ c.get-in-If.ensures c.bool.ensures)) c.in_ok-second-in-If.ensures (expression_is names _ _ _ _ c.get-in-If-2.ensures c.node.ensures)) (h names) refl)) c.branch_is.ensures
 
 pub returns-in-Seq : goal.returns-in-Seq
 returns-in-Seq c =
@@ -128,7 +118,7 @@ returns-in_ok-first-in-Typed c =
 pub returns-in_ok-first-in-Borrow : goal.returns-in_ok-first-in-Borrow
 returns-in_ok-first-in-Borrow c =
     let names = names_of c.args.s.now.refs c.args.s.now.types c.args.item in
-    if_ok _ (λ es h. row_of_kind (expr_kind names) c.args.kind.now _ _ c.args.n c.args.span es c.in-Borrow.is (L.borrow names _ _ _) (more _ es _ _ _ (first _ _ _ c.in_ok-first-in-Borrow.ensures (term_is _ _ _ _ c.in_ok-name_term-in-Borrow.ensures)) h (expression_is names _ _ _ _ c.get-in-Borrow.ensures c.node-in-Borrow.ensures))) c.part_is-in-Borrow.ensures
+    if_ok _ (λ es h. row_of_kind (expr_kind names) c.args.kind.now _ _ c.args.n c.args.span es c.in-Borrow.is (L.borrow names _ _ _) (more _ es _ _ _ (first _ _ _ c.in_ok-first-in-Borrow.ensures (term_is _ _ _ _ c.name_term-in-Borrow.ensures)) h (expression_is names _ _ _ _ c.get-in-Borrow.ensures c.node-in-Borrow.ensures))) c.part_is-in-Borrow.ensures
 
 pub returns-in-Let : goal.returns-in-Let
 returns-in-Let c =

@@ -76,14 +76,14 @@ bind-returns t c =
     let names = names_of c.args.s.now.refs c.args.s.now.types c.args.item in
     bind_walk names c.args.one.now _ _ _ _ _ _ c.in_ok-pattern.ensures (c.in_ok-params.ensures ∙ ap (λ z. c.pattern.new.steps ++ all_steps (param_parts names z)) c.as_slice.ensures) c.in_ok-expression.ensures c.in_ok-equations.ensures c.in_ok-push.ensures
 
-pub parts-returns-in_ok-expression-in-Con-default-Some : goal.parts-returns-in_ok-expression-in-Con-default-Some
-parts-returns-in_ok-expression-in-Con-default-Some t c = E.con (names_of c.args.s.now.refs c.args.s.now.types c.args.item) c.args.kind.now _ _ _ _ c.args.n _ _ c.in-Con-default-Some.is c.in-Con-default-Some.arg-is c.get.ensures c.in_ok-expression-in-Con-default-Some.ensures
+pub parts-returns-in_ok-optional-in-Con : goal.parts-returns-in_ok-optional-in-Con
+parts-returns-in_ok-optional-in-Con t c = E.con (names_of c.args.s.now.refs c.args.s.now.types c.args.item) c.args.kind.now _ _ c.args.n _ _ c.in-Con.is c.in_ok-optional-in-Con.ensures
 
-pub parts-returns-in-Con-default-None : goal.parts-returns-in-Con-default-None
-parts-returns-in-Con-default-None t c = E.con_alone (names_of c.args.s.now.refs c.args.s.now.types c.args.item) c.args.kind.now _ _ c.args.n _ c.in-Con-default-None.is c.in-Con-default-None.arg-is
+pub parts-returns-in_ok-optional-in-If : goal.parts-returns-in_ok-optional-in-If
+parts-returns-in_ok-optional-in-If t c = E.conditional (names_of c.args.s.now.refs c.args.s.now.types c.args.item) c.args.kind.now _ _ _ _ _ c.args.n _ _ _ _ c.in-If.is c.get-in-If.ensures c.get-in-If-2.ensures c.in_ok-expression-in-If.ensures c.in_ok-expression-in-If-2.ensures c.in_ok-optional-in-If.ensures
 
 pub parts-returns-in_ok-expression-in-Cons-2 : goal.parts-returns-in_ok-expression-in-Cons-2
-parts-returns-in_ok-expression-in-Cons-2 t c = E.cons (names_of c.args.s.now.refs c.args.s.now.types c.args.item) c.args.kind.now _ _ _ _ c.args.n _ _ _ c.in-Cons.is c.get-in-Cons.ensures c.get-in-Cons-2.ensures c.in_ok-expression-in-Cons.ensures c.in_ok-expression-in-Cons-2.ensures
+parts-returns-in_ok-expression-in-Cons-2 t c = E.cons (names_of c.args.s.now.refs c.args.s.now.types c.args.item) c.args.kind.now _ _ _ _ c.args.n _ _ _ c.in-Cons.is c.get.ensures c.get-in-Cons.ensures c.in_ok-expression-in-Cons.ensures c.in_ok-expression-in-Cons-2.ensures
 
 pub parts-returns-in_ok-expression-in-Index-2 : goal.parts-returns-in_ok-expression-in-Index-2
 parts-returns-in_ok-expression-in-Index-2 t c = E.index (names_of c.args.s.now.refs c.args.s.now.types c.args.item) c.args.kind.now _ _ _ _ c.args.n _ _ _ c.in-Index.is c.get-in-Index.ensures c.get-in-Index-2.ensures c.in_ok-expression-in-Index.ensures c.in_ok-expression-in-Index-2.ensures
@@ -105,12 +105,6 @@ parts-returns-in_ok-fields-in-Fields t c = E.fields (names_of c.args.s.now.refs 
 
 pub parts-returns-in_ok-expressions-in-Apply : goal.parts-returns-in_ok-expressions-in-Apply
 parts-returns-in_ok-expressions-in-Apply t c = E.apply (names_of c.args.s.now.refs c.args.s.now.types c.args.item) c.args.kind.now _ _ _ _ c.args.n _ _ _ c.in-Apply.is c.get-in-Apply.ensures c.as_slice-in-Apply.ensures c.in_ok-expression-in-Apply.ensures c.in_ok-expressions-in-Apply.ensures
-
-pub parts-returns-in_ok-expression-in-If-default-default-None-2 : goal.parts-returns-in_ok-expression-in-If-default-default-None-2
-parts-returns-in_ok-expression-in-If-default-default-None-2 t c = E.if_alone (names_of c.args.s.now.refs c.args.s.now.types c.args.item) c.args.kind.now _ _ _ _ _ c.args.n _ _ _ c.in-If-default-default-None.is c.in-If-default-default-None.field-2-is c.get-in-If-default-default-None.ensures c.get-in-If-default-default-None-2.ensures c.in_ok-expression-in-If-default-default-None.ensures c.in_ok-expression-in-If-default-default-None-2.ensures
-
-pub parts-returns-in_ok-expression-in-If-default-default-Some-3 : goal.parts-returns-in_ok-expression-in-If-default-default-Some-3
-parts-returns-in_ok-expression-in-If-default-default-Some-3 t c = E.if_else (names_of c.args.s.now.refs c.args.s.now.types c.args.item) c.args.kind.now _ _ _ _ _ _ _ c.args.n _ _ _ _ c.in-If-default-default-Some.is c.in-If-default-default-Some.field-2-is c.get-in-If-default-default-Some.ensures c.get-in-If-default-default-Some-2.ensures c.get-in-If-default-default-Some-3.ensures c.in_ok-expression-in-If-default-default-Some.ensures c.in_ok-expression-in-If-default-default-Some-2.ensures c.in_ok-expression-in-If-default-default-Some-3.ensures
 
 pub parts-returns-in_ok-expression-in-Let : goal.parts-returns-in_ok-expression-in-Let
 parts-returns-in_ok-expression-in-Let t c = E.binding (names_of c.args.s.now.refs c.args.s.now.types c.args.item) c.args.kind.now _ _ _ _ _ c.args.n _ _ _ c.in-Let.is c.as_slice-in-Let.ensures c.get-in-Let.ensures c.in_ok-binds-in-Let.ensures c.in_ok-expression-in-Let.ensures

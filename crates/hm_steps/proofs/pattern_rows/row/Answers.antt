@@ -34,20 +34,15 @@ returns-in-Text c =
     let names = names_of c.args.s.now.refs c.args.s.now.types c.args.item in
     if_ok _ (λ es h. row_of_kind (pattern_kind names) c.args.kind.now _ _ c.args.n c.args.span es c.in-Text.is (L.text_value names _) (first _ _ _ h (term_is _ _ _ _ c.string.ensures))) c.one-in-Text.ensures
 
-pub returns-in_ok-con_term-in-Con-default-None : goal.returns-in_ok-con_term-in-Con-default-None
-returns-in_ok-con_term-in-Con-default-None c =
+pub returns-in_ok-first-in-Con : goal.returns-in_ok-first-in-Con
+returns-in_ok-first-in-Con c =
     let names = names_of c.args.s.now.refs c.args.s.now.types c.args.item in
-    if_ok _ (λ es h. row_of_kind (pattern_kind names) c.args.kind.now _ _ c.args.n c.args.span es (L.con_at _ _ _ _ c.in-Con-default-None.is c.in-Con-default-None.arg-is) (L.con_alone names _) (first _ _ _ h (term_is _ _ _ _ (c.in_ok-con_term-in-Con-default-None.ensures c.args.item)))) c.one-in-Con-default-None.ensures
-
-pub returns-in_ok-argument-in-Con-default-Some : goal.returns-in_ok-argument-in-Con-default-Some
-returns-in_ok-argument-in-Con-default-Some c =
-    let names = names_of c.args.s.now.refs c.args.s.now.types c.args.item in
-    if_ok _ (λ es h. row_of_kind (pattern_kind names) c.args.kind.now _ _ c.args.n c.args.span es (L.con_at _ _ _ _ c.in-Con-default-Some.is c.in-Con-default-Some.arg-is) (L.con names _ _) (more _ es _ _ _ (first _ _ _ c.in_ok-first-in-Con-default-Some.ensures (term_is _ _ _ _ (c.in_ok-con_term-in-Con-default-Some.ensures c.args.item))) h (pattern_is names _ _ _ _ c.get.ensures c.in_ok-argument-in-Con-default-Some.ensures))) c.part_is.ensures
+    if_ok _ (λ es h. row_of_kind (pattern_kind names) c.args.kind.now _ _ c.args.n c.args.span es c.in-Con.is (L.con names _ _) (first_then _ es _ _ _ _ c.in_ok-first-in-Con.ensures (term_is _ _ _ _ (c.in_ok-con_term-in-Con.ensures c.args.item)) (h c.args.item) refl)) c.argument_is.ensures
 
 pub returns-in_ok-list_of-in-Cons-2 : goal.returns-in_ok-list_of-in-Cons-2
 returns-in_ok-list_of-in-Cons-2 c =
     let names = names_of c.args.s.now.refs c.args.s.now.types c.args.item in
-    if_ok _ (λ es h. row_of_kind (pattern_kind names) c.args.kind.now _ _ c.args.n c.args.span es c.in-Cons.is (L.cons names _ _) (more _ es _ _ _ (more _ _ _ _ _ (first _ _ _ c.in_ok-list-in-Cons.ensures (term_is _ _ _ _ (c.in_ok-list_of-in-Cons.ensures ∙ ap list_of c.fresh.ensures))) c.in_ok-element-in-Cons.ensures (pattern_is names _ _ _ _ c.get-in-Cons.ensures c.fresh-in-Cons.ensures)) h (pattern_is names _ _ _ _ c.get-in-Cons-2.ensures (c.in_ok-list_of-in-Cons-2.ensures ∙ ap list_of c.fresh-in-Cons-2.ensures)))) c.part_is-in-Cons-2.ensures
+    if_ok _ (λ es h. row_of_kind (pattern_kind names) c.args.kind.now _ _ c.args.n c.args.span es c.in-Cons.is (L.cons names _ _) (more _ es _ _ _ (more _ _ _ _ _ (first _ _ _ c.in_ok-list-in-Cons.ensures (term_is _ _ _ _ (c.in_ok-list_of-in-Cons.ensures ∙ ap list_of c.fresh.ensures))) c.in_ok-element-in-Cons.ensures (pattern_is names _ _ _ _ c.get.ensures c.fresh-in-Cons.ensures)) h (pattern_is names _ _ _ _ c.get-in-Cons.ensures (c.in_ok-list_of-in-Cons-2.ensures ∙ ap list_of c.fresh-in-Cons-2.ensures)))) c.part_is-in-Cons.ensures
 
 pub returns-in_ok-product-in-Tuple : goal.returns-in_ok-product-in-Tuple
 returns-in_ok-product-in-Tuple c =
@@ -62,7 +57,7 @@ returns-in_ok-first-in-List c =
 pub returns-in_ok-first-in-Fields : goal.returns-in_ok-first-in-Fields
 returns-in_ok-first-in-Fields c =
     let names = names_of c.args.s.now.refs c.args.s.now.types c.args.item in
-    if_ok _ (λ es h. row_of_kind (pattern_kind names) c.args.kind.now _ _ c.args.n c.args.span es c.in-Fields.is (L.fields names _ _) (first_then _ es _ _ _ _ c.in_ok-first-in-Fields.ensures (term_is _ _ _ _ c.in_ok-record_term-in-Fields.ensures) h (ap (λ z. fields_are names c.args.n (map (field_pattern names) z)) c.as_slice-in-Fields.ensures))) c.field_types.ensures
+    if_ok _ (λ es h. row_of_kind (pattern_kind names) c.args.kind.now _ _ c.args.n c.args.span es c.in-Fields.is (L.fields names _ _) (first_then _ es _ _ _ _ c.in_ok-first-in-Fields.ensures (term_is _ _ _ _ c.record_term.ensures) h (ap (λ z. fields_are names c.args.n (map (field_pattern names) z)) c.as_slice-in-Fields.ensures))) c.field_types.ensures
 
 pub returns-in_ok-first-in-Or : goal.returns-in_ok-first-in-Or
 returns-in_ok-first-in-Or c =

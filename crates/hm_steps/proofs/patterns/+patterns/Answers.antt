@@ -34,14 +34,11 @@ pattern-returns t c =
 pub field-returns : goal.field-returns
 field-returns t c = field_pattern_walk (names_of c.args.s.now.refs c.args.s.now.types c.args.item) c.args.one.now _ _ _ c.in_ok-pattern.ensures c.in_ok-field_step.ensures
 
-pub parts-returns-in_ok-pattern-in-Con-default-Some : goal.parts-returns-in_ok-pattern-in-Con-default-Some
-parts-returns-in_ok-pattern-in-Con-default-Some t c = λ n. P.con (names_of c.args.s.now.refs c.args.s.now.types c.args.item) c.args.kind.now _ _ _ _ n _ _ c.in-Con-default-Some.is c.in-Con-default-Some.arg-is c.get.ensures c.in_ok-pattern-in-Con-default-Some.ensures
-
-pub parts-returns-in-Con-default-None : goal.parts-returns-in-Con-default-None
-parts-returns-in-Con-default-None t c = λ n. P.con_alone (names_of c.args.s.now.refs c.args.s.now.types c.args.item) c.args.kind.now _ _ n _ c.in-Con-default-None.is c.in-Con-default-None.arg-is
+pub parts-returns-in_ok-argument-in-Con : goal.parts-returns-in_ok-argument-in-Con
+parts-returns-in_ok-argument-in-Con t c = λ n. P.con (names_of c.args.s.now.refs c.args.s.now.types c.args.item) c.args.kind.now _ _ n _ _ c.in-Con.is c.in_ok-argument-in-Con.ensures
 
 pub parts-returns-in_ok-pattern-in-Cons-2 : goal.parts-returns-in_ok-pattern-in-Cons-2
-parts-returns-in_ok-pattern-in-Cons-2 t c = λ n. P.cons (names_of c.args.s.now.refs c.args.s.now.types c.args.item) c.args.kind.now _ _ _ _ n _ _ _ c.in-Cons.is c.get-in-Cons.ensures c.get-in-Cons-2.ensures c.in_ok-pattern-in-Cons.ensures c.in_ok-pattern-in-Cons-2.ensures
+parts-returns-in_ok-pattern-in-Cons-2 t c = λ n. P.cons (names_of c.args.s.now.refs c.args.s.now.types c.args.item) c.args.kind.now _ _ _ _ n _ _ _ c.in-Cons.is c.get.ensures c.get-in-Cons.ensures c.in_ok-pattern-in-Cons.ensures c.in_ok-pattern-in-Cons-2.ensures
 
 pub parts-returns-in_ok-pattern-in-Or-2 : goal.parts-returns-in_ok-pattern-in-Or-2
 parts-returns-in_ok-pattern-in-Or-2 t c = λ n. P.either (names_of c.args.s.now.refs c.args.s.now.types c.args.item) c.args.kind.now _ _ _ _ n _ _ _ c.in-Or.is c.get-in-Or.ensures c.get-in-Or-2.ensures c.in_ok-pattern-in-Or.ensures c.in_ok-pattern-in-Or-2.ensures

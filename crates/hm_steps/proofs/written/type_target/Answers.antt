@@ -1,5 +1,5 @@
-use Rattle.hm_steps.proofs.Lookups.{find_has}
+use Rattle.hm_steps.proofs.Lookups.{find_is}
 use Rattle.hm_steps.proofs.written.type_target.Goals as goal
 
-pub returns-in-Some : goal.returns-in-Some
-returns-in-Some c = find_has _ _ _ c.args.s.now.types_rise c.in-Some.ensures.some
+pub returns : goal.returns
+returns c = find_is _ _ _ c.args.s.now.types_rise c.type_target.ensures.some c.type_target.ensures.none
