@@ -24,13 +24,16 @@ by_kind q k names is law = fold_out-Pat (ℕ → List ℕ) (List ℕ) (List ℕ)
 pub of_field : (f : FieldPat) → binders_of_field f ≡ binders (out-FieldPat f).pat
 of_field f = fold_out-FieldPat (ℕ → List ℕ) (List ℕ) (List ℕ) kind_binders field_binders whole_binders f
 
-pub con : (name : ConName) (arg : Option Pat) → of_kind (P.Con name arg) ≡ kind_binders (p.Con name (option_map binders arg))
+con : (name : ConName) (arg : Option Pat) → of_kind (P.Con name arg) ≡ kind_binders (p.Con name (option_map binders arg))
 con name None = ap of_kind (sym (P.rolls-Con name None)) ∙ fold-roll-PatKind (ℕ → List ℕ) (List ℕ) (List ℕ) kind_binders field_binders whole_binders (p.Con name None)
 con name (Some q) = ap of_kind (sym (P.rolls-Con name (Some q))) ∙ fold-roll-PatKind (ℕ → List ℕ) (List ℕ) (List ℕ) kind_binders field_binders whole_binders (p.Con name (Some q))
 
-pub con_binders : (name : ConName) (arg : Option (List ℕ)) (n : ℕ) → kind_binders (p.Con name arg) n ≡ binders_of_any arg
+con_binders : (name : ConName) (arg : Option (List ℕ)) (n : ℕ) → kind_binders (p.Con name arg) n ≡ binders_of_any arg
 con_binders name None n = refl
 con_binders name (Some ns) n = refl
+
+pub of_con : (q : Pat) (name : ConName) (arg : Option Pat) → (out-Pat q).kind ≡ P.Con name arg → binders q ≡ binders_of_any (option_map binders arg)
+of_con q name arg is = by_kind q (P.Con name arg) (kind_binders (p.Con name (option_map binders arg))) is (con name arg) ∙ con_binders name (option_map binders arg) (out-Pat q).id
 
 pub cons : (q u : Pat) → of_kind (P.Cons q u) ≡ kind_binders (p.Cons (binders q) (binders u))
 cons q u = ap of_kind (sym (P.rolls-Cons q u)) ∙ fold-roll-PatKind (ℕ → List ℕ) (List ℕ) (List ℕ) kind_binders field_binders whole_binders (p.Cons q u)

@@ -23,7 +23,7 @@ pub binders-returns-in_ok-push-in-Name : goal.binders-returns-in_ok-push-in-Name
 binders-returns-in_ok-push-in-Name t c = c.in_ok-push-in-Name.ensures.ok ∙ ap (λ z. c.args.numbers.now ++ z) (sym (B.by_kind c.args.q.now _ _ c.in-Name.is (B.name _ _)))
 
 pub binders-returns-in_ok-argument_binders-in-Con : goal.binders-returns-in_ok-argument_binders-in-Con
-binders-returns-in_ok-argument_binders-in-Con t c = c.in_ok-argument_binders-in-Con.ensures ∙ ap (λ z. c.args.numbers.now ++ z) (sym (B.by_kind c.args.q.now _ _ c.in-Con.is (B.con _ _) ∙ B.con_binders _ _ _))
+binders-returns-in_ok-argument_binders-in-Con t c = c.in_ok-argument_binders-in-Con.ensures ∙ ap (λ z. c.args.numbers.now ++ z) (sym (B.of_con c.args.q.now _ _ c.in-Con.is))
 
 pub binders-returns-in_ok-binders-in-Cons-2 : goal.binders-returns-in_ok-binders-in-Cons-2
 binders-returns-in_ok-binders-in-Cons-2 t c = two _ _ _ _ _ (c.in_ok-binders-in-Cons.ensures ∙ ap (λ z. c.args.numbers.now ++ binders z) c.get.ensures) (c.in_ok-binders-in-Cons-2.ensures ∙ ap (λ z. c.binders.new.numbers ++ binders z) c.get-in-Cons.ensures) ∙ ap (λ z. c.args.numbers.now ++ z) (sym (B.by_kind c.args.q.now _ _ c.in-Cons.is (B.cons _ _)))
