@@ -9,7 +9,7 @@ ghost use Rattle.ml_typing.specs.Steps.{expression, arm, arms_are, guard_is};
 ghost use Rattle.hm_steps.specs.Blocks.{arm_is};
 
 use crate::expression_rows::part_is;
-use crate::terms::{bool, fresh, one};
+use crate::terms::{bool, fresh, one, single};
 use ml_tree::{Arm, Expr};
 use ml_typing::{Equation, Term, Unknown};
 use oxml_base::{Items, NoMemory, Span};
@@ -66,8 +66,7 @@ pub fn function_row(
 ) -> Result<Items<Equation>, NoMemory>
     ensures { IfOk result (λ es. (names : Names) → es ≡ equation span (Node n) (Function (at n 0 ∷ []) (at n 1)) ∷ arms_are (at n 1) (map (arm names) arms.now)) }
 {
-    let mut params = Items::new(alloc);
-    params.push(fresh(n, 0))?;
+    let params = single(alloc, fresh(n, 0))?;
     let arrow = Term::Function(params, Boxed::new(alloc, fresh(n, 1))?);
     let own = one(alloc, span, Unknown::Node(n), arrow)?;
     arms_are(own, alloc, arms, Unknown::Fresh(n, 1))

@@ -45,13 +45,20 @@ pub fn unit(alloc: Global) -> Term
     plain(alloc, 4)
 }
 
+/// One term alone.
+pub fn single(alloc: Global, term: Term) -> Result<Items<Term>, NoMemory>
+    ensures { IfOk result (λ ts. ts ≡ term ∷ []) }
+{
+    let mut list = Items::new(alloc);
+    list.push(term)?;
+    Ok(list)
+}
+
 /// The list of this element.
 pub fn list_of(alloc: Global, element: Term) -> Result<Term, NoMemory>
     ensures { IfOk result (λ t. t ≡ list_of element) }
 {
-    let mut args = Items::new(alloc);
-    args.push(element)?;
-    Ok(Term::Con(5, args))
+    Ok(Term::Con(5, single(alloc, element)?))
 }
 
 /// What stands for the type of a name that has no reference.

@@ -3,7 +3,7 @@ ghost use Rattle.std.specs.Prelude.{◌≡◌, Some, map, IfOk};
 ghost use Rattle.ml_typing.specs.Written.{written, written_name};
 ghost use Rattle.ml_typing.specs.Typing.{find, names_of};
 
-use crate::terms::nothing;
+use crate::terms::{nothing, single};
 use ml_tree::{Scoped, TyExpr, TyKind, TyRef};
 use ml_typing::{Term, Unknown};
 use oxml_base::{Items, NoMemory};
@@ -26,9 +26,8 @@ pub fn written(alloc: Global, s: &Scoped, item: u32, ty: &TyExpr) -> Result<Term
             Ok(Term::Tuple(terms))
         }
         TyKind::Arrow { from, to } => {
-            let mut params = Items::new(alloc);
             let param = written(alloc, s, item, &from.get().ty)?;
-            params.push(param)?;
+            let params = single(alloc, param)?;
             let result = written(alloc, s, item, &to.get().ty)?;
             Ok(Term::Function(params, Boxed::new(alloc, result)?))
         }
