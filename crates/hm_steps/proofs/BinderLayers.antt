@@ -1,5 +1,5 @@
 -- The names that single kinds of patterns bind.
-use Rattle.std.proofs.Common.{◌≡◌, ℕ, ℤ, Bool, List, [], ◌∷◌, ◌++◌, map, Option, Some, None, refl, sym, ap, ◌∙◌}
+use Rattle.std.proofs.Common.{◌≡◌, ℕ, ℤ, Bool, List, map, Option, Some, None, refl, sym, ap, ◌∙◌}
 use Rattle.std.specs.Option.{option_map}
 use Rattle.oxml_base.specs.declared.span.Span.{Span}
 use Rattle.oxml_base.specs.declared.literal.Lit.{Lit}
@@ -11,7 +11,7 @@ use Rattle.ml_tree.specs.declared.pattern.Pat.{Pat, out-Pat, fold_out-Pat}
 use Rattle.ml_tree.specs.declared.pattern.PatKind.{PatKind, fold-PatKind, fold-roll-PatKind}
 use Rattle.ml_tree.specs.declared.pattern.PatKind.TheVariants as P
 use Rattle.ml_tree.specs.declared.pattern.PatKind.TheOpen as p
-use Rattle.ml_typing.specs.Steps.{binders, joined, kind_binders, field_binders, whole_binders}
+use Rattle.ml_typing.specs.Steps.{binders, kind_binders, field_binders, whole_binders}
 use Rattle.hm_steps.specs.Blocks.{binders_of_field, binders_of_any}
 
 abbrev pub of_kind : PatKind → ℕ → List ℕ

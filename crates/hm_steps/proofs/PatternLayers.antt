@@ -8,7 +8,7 @@ use Rattle.ml_tree.specs.declared.types.TyExpr.{TyExpr}
 use Rattle.ml_tree.specs.declared.pattern.ConName.{ConName}
 use Rattle.ml_tree.specs.declared.pattern.FieldPat.{FieldPat, out-FieldPat, fold_out-FieldPat}
 use Rattle.ml_tree.specs.declared.pattern.Pat.{Pat, out-Pat, fold_out-Pat}
-use Rattle.ml_tree.specs.declared.pattern.PatKind.{PatKind, out-PatKind, fold_out-PatKind, fold-roll-PatKind}
+use Rattle.ml_tree.specs.declared.pattern.PatKind.{fold-roll-PatKind}
 use Rattle.ml_tree.specs.declared.pattern.PatKind.TheVariants as P
 use Rattle.ml_tree.specs.declared.pattern.PatKind.TheOpen as p
 use Rattle.ml_tree.specs.declared.pattern.PatKind.TheOpen.{PatKind-F}

@@ -1,5 +1,5 @@
 -- What the walk of a node, an arm or a bind appends, from what it appends for the parts.
-use Rattle.std.proofs.Common.{◌≡◌, ℕ, List, [], ◌∷◌, ◌++◌, Option, Some, None, refl, sym, ap, ◌∙◌}
+use Rattle.std.proofs.Common.{◌≡◌, ℕ, List, [], ◌∷◌, ◌++◌, Option, Some, None, sym, ap, ◌∙◌}
 use Rattle.std.specs.Option.{option_map}
 use Rattle.std.proofs.lemmas.List.{append_assoc, append-nil}
 use Rattle.oxml_base.specs.declared.span.Span.{Span}
@@ -18,7 +18,7 @@ use Rattle.ml_typing.specs.declared.equation.Term.TheVariants.{Of}
 use Rattle.ml_typing.specs.declared.equation.Equation.{Equation}
 use Rattle.ml_typing.specs.declared.equation.Step.{Step}
 use Rattle.ml_typing.specs.Written.{Names}
-use Rattle.ml_typing.specs.Rows.{Part, Row, FieldPart, pattern, pattern_kind, field_pattern, pattern_row, pattern_field, pattern_whole, part_of, field_part, equation, node_is, steps_and, steps_of, all_steps, steps_of_any}
+use Rattle.ml_typing.specs.Rows.{Part, Row, FieldPart, pattern, pattern_kind, field_pattern, pattern_row, pattern_field, pattern_whole, part_of, equation, node_is, steps_and, steps_of, all_steps, steps_of_any}
 use Rattle.ml_typing.specs.Steps.{ArmPart, BindPart, expression, expr_kind, field_expr, arm, bind, bind_step, bind_steps, param_parts, result_term}
 use Rattle.hm_steps.specs.Blocks.{arm_steps}
 use Rattle.hm_steps.proofs.PatternLayers as P

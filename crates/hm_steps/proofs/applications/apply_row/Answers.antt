@@ -1,8 +1,7 @@
-use Rattle.std.proofs.Common.{map, ap, ◌∙◌}
+use Rattle.std.proofs.Common.{map, ◌∙◌}
 use Rattle.ml_typing.specs.declared.equation.Unknown.TheVariants.{Node}
 use Rattle.ml_typing.specs.declared.equation.Term.TheVariants.{Of, Function}
 use Rattle.ml_typing.specs.Steps.{expression, ats}
-use Rattle.std.proofs.Common.{◌∷◌, ◌++◌, []}
 use Rattle.hm_steps.proofs.RowParts.{if_ok_each, application, function_is, begun}
 use Rattle.hm_steps.proofs.applications.apply_row.Goals as goal
 

@@ -1,4 +1,3 @@
-use Rattle.std.proofs.Common.{◌∷◌, ◌++◌, [], refl, ap, ◌∙◌}
 use Rattle.hm_steps.proofs.Arguments.{args_step, args_end}
 use Rattle.hm_steps.proofs.applications.arg_types.Goals as goal
 

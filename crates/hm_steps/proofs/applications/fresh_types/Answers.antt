@@ -1,4 +1,4 @@
-use Rattle.std.proofs.Common.{◌∷◌, ◌++◌, [], refl, ap, ◌∙◌}
+use Rattle.std.proofs.Common.{◌∷◌, ◌++◌, [], ap, ◌∙◌}
 use Rattle.hm_steps.proofs.Arguments.{types_step, types_end}
 use Rattle.hm_steps.proofs.applications.fresh_types.Goals as goal
 

@@ -1,5 +1,4 @@
 use Rattle.std.proofs.Common.{◌∷◌, ◌++◌, [], map, refl, sym, ap, ◌∙◌}
-use Rattle.ml_tree.specs.declared.pattern.PatKind.TheVariants as K
 use Rattle.ml_typing.specs.Steps.{binders, joined}
 use Rattle.hm_steps.specs.Blocks.{binders_of_field}
 use Rattle.hm_steps.proofs.Lists.{block_step, block_end}

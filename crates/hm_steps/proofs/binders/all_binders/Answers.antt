@@ -1,4 +1,4 @@
-use Rattle.std.proofs.Common.{◌++◌, [], refl, ap, ◌∙◌}
+use Rattle.std.proofs.Common.{refl}
 use Rattle.ml_tree.specs.declared.expr.Bind.{out-Bind}
 use Rattle.ml_typing.specs.Steps.{binders, bind_binders}
 use Rattle.hm_steps.proofs.Lists.{block_step, block_end}

@@ -1,4 +1,4 @@
-use Rattle.std.proofs.Common.{◌≡◌, ◌∷◌, ◌++◌, [], map, refl, sym, ap, ◌∙◌}
+use Rattle.std.proofs.Common.{◌∷◌, ◌++◌, [], map, refl, ap, ◌∙◌}
 use Rattle.ml_typing.specs.Rows.{node_is, each_is, at}
 use Rattle.ml_typing.specs.Steps.{expression}
 use Rattle.hm_steps.proofs.Lists.{block_step, block_end}

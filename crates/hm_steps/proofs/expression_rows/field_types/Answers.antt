@@ -1,4 +1,4 @@
-use Rattle.std.proofs.Common.{◌≡◌, ◌∷◌, ◌++◌, [], map, refl, sym, ap, ◌∙◌}
+use Rattle.std.proofs.Common.{◌∷◌, [], map, refl}
 use Rattle.ml_typing.specs.Rows.{fields_are}
 use Rattle.ml_typing.specs.Steps.{field_expr}
 use Rattle.ml_typing.specs.Typing.{names_of}

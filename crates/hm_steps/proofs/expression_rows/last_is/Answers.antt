@@ -1,4 +1,4 @@
-use Rattle.std.proofs.Common.{◌∷◌, ◌++◌, [], sym, ap, ◌∙◌}
+use Rattle.std.proofs.Common.{sym, ◌∙◌}
 use Rattle.hm_steps.proofs.RowParts.{if_ok_each, begun, last_some, last_none}
 use Rattle.hm_steps.proofs.expression_rows.last_is.Goals as goal
 

@@ -1,4 +1,4 @@
-use Rattle.std.proofs.Common.{◌≡◌, ◌∷◌, ◌++◌, [], map, refl, sym, ap, ◌∙◌}
+use Rattle.std.proofs.Common.{◌∷◌, ◌++◌, [], map, refl, sym, ap, ◌∙◌}
 use Rattle.ml_typing.specs.declared.equation.Unknown.TheVariants.{Node}
 use Rattle.ml_typing.specs.declared.equation.Term.TheVariants.{Of, Tuple}
 use Rattle.ml_typing.specs.Rows.{type_of}

@@ -1,13 +1,12 @@
-use Rattle.std.proofs.Common.{◌≡◌, [], ◌∷◌, ◌++◌, map, refl, sym, ap, ◌∙◌}
-use Rattle.ml_typing.specs.declared.equation.Unknown.TheVariants.{Node, Binder, Fresh}
+use Rattle.std.proofs.Common.{[], ◌∷◌, map, refl, sym, ap, ◌∙◌}
+use Rattle.ml_typing.specs.declared.equation.Unknown.TheVariants.{Node}
 use Rattle.ml_typing.specs.declared.equation.Term.TheVariants.{Of, Tuple, Function}
-use Rattle.ml_tree.specs.declared.expr.ExprKind.TheVariants as K
-use Rattle.ml_typing.specs.Rows.{equation, node_is, type_of, at, list_of, each_is, fields_are, declared_record}
+use Rattle.ml_typing.specs.Rows.{equation, node_is, type_of, at, list_of, each_is, fields_are}
 use Rattle.ml_typing.specs.Steps.{expression, expr_kind, field_expr, arm, arms_are, last_is, ats, args_are, param_parts}
 use Rattle.ml_typing.specs.Typing.{names_of}
 use Rattle.hm_steps.proofs.ExpressionLayers as L
 use Rattle.hm_steps.proofs.Walks.{row_of_kind}
-use Rattle.hm_steps.proofs.RowParts.{if_ok, first, more, alone, first_then, followed, after_none, parts_of_three, term_is, function_is, pattern_is, expression_is}
+use Rattle.hm_steps.proofs.RowParts.{if_ok, first, more, alone, first_then, followed, after_none, parts_of_three, term_is, function_is, expression_is}
 use Rattle.hm_steps.proofs.expression_rows.row.Goals as goal
 
 pub returns-in-Int : goal.returns-in-Int

@@ -1,4 +1,4 @@
-use Rattle.std.proofs.Common.{◌≡◌, ◌∷◌, ◌++◌, [], map, refl, sym, ap, ◌∙◌}
+use Rattle.std.proofs.Common.{◌∷◌, ◌++◌, [], map, refl, ap, ◌∙◌}
 use Rattle.ml_typing.specs.Rows.{pattern, node_is, each_is, at}
 use Rattle.hm_steps.proofs.Lists.{block_step, block_end}
 use Rattle.hm_steps.proofs.PatternLayers.{is_node}

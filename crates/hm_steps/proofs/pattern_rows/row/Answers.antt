@@ -1,12 +1,10 @@
-use Rattle.std.proofs.Common.{◌≡◌, [], ◌∷◌, ◌++◌, map, refl, sym, ap, ◌∙◌}
-use Rattle.ml_typing.specs.declared.equation.Unknown.TheVariants.{Node, Binder, Fresh}
-use Rattle.ml_typing.specs.declared.equation.Term.TheVariants.{Of, Tuple, Function}
-use Rattle.ml_tree.specs.declared.pattern.PatKind.TheVariants as K
-use Rattle.ml_typing.specs.Rows.{equation, pattern, pattern_kind, field_pattern, type_of, at, list_of, each_is, fields_are, declared_record}
+use Rattle.std.proofs.Common.{[], ◌∷◌, map, refl, ap, ◌∙◌}
+use Rattle.ml_typing.specs.declared.equation.Term.TheVariants.{Tuple}
+use Rattle.ml_typing.specs.Rows.{pattern, pattern_kind, field_pattern, type_of, at, list_of, each_is, fields_are}
 use Rattle.ml_typing.specs.Typing.{names_of}
 use Rattle.hm_steps.proofs.PatternLayers as L
 use Rattle.hm_steps.proofs.Walks.{row_of_kind}
-use Rattle.hm_steps.proofs.RowParts.{if_ok, first, more, alone, first_then, after_none, parts_of_three, term_is, function_is, pattern_is, expression_is}
+use Rattle.hm_steps.proofs.RowParts.{if_ok, first, more, alone, first_then, term_is, pattern_is}
 use Rattle.hm_steps.proofs.pattern_rows.row.Goals as goal
 
 pub returns-in-Any : goal.returns-in-Any

@@ -1,6 +1,6 @@
-use Rattle.std.proofs.Common.{◌≡◌, ◌∷◌, ◌++◌, [], map, refl, sym, ap, ◌∙◌}
+use Rattle.std.proofs.Common.{◌∷◌, ◌++◌, [], map, refl, sym, ap, ◌∙◌}
 use Rattle.ml_typing.specs.declared.equation.Unknown.TheVariants.{Node}
-use Rattle.ml_typing.specs.declared.equation.Term.TheVariants.{Of, Tuple}
+use Rattle.ml_typing.specs.declared.equation.Term.TheVariants.{Of}
 use Rattle.ml_tree.specs.declared.pattern.Param.{Param}
 use Rattle.ml_typing.specs.Rows.{pattern, type_of}
 use Rattle.ml_typing.specs.Steps.{param_parts}
