@@ -71,9 +71,6 @@ function_is params others result term e f = ap (λ z. Function z result) e ∙ a
 pub begun : {A : Type 0} (start rest : List A) → start ≡ [] → start ++ rest ≡ [] ++ rest
 begun start rest none = ap (λ z. z ++ rest) none
 
-pub pushed : {A : Type 0} (start : List A) (x y : A) → start ≡ [] → x ≡ y → start ++ x ∷ [] ≡ y ∷ []
-pushed start x y none same = ap (λ z. z ++ x ∷ []) none ∙ ap (λ z. z ∷ []) same
-
 -- from the start of one to the end of another
 abbrev pub between : Span → Span → Span
 between from to = record { start = from.start; «end» = to.«end» }

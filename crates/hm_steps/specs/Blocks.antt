@@ -1,4 +1,4 @@
--- The steps of one arm, and the names that the fields of a record pattern bind.
+-- The steps and equations of one arm or one field, and the names that parts of a pattern bind.
 use Rattle.std.specs.Prelude.{ℕ, List, [], ◌∷◌, ◌++◌, Option, Some, None}
 use Rattle.ml_tree.specs.declared.pattern.FieldPat.{FieldPat, fold-FieldPat}
 use Rattle.ml_typing.specs.declared.equation.Term.{Term}

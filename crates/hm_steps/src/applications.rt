@@ -1,5 +1,5 @@
 //! The equations of an application.
-ghost use Rattle.std.specs.Prelude.{◌≡◌, ℕ, ◌<◌, [], ◌∷◌, ◌++◌, map, length, IfOk};
+ghost use Rattle.std.specs.Prelude.{◌≡◌, ◌<◌, ◌∷◌, ◌++◌, map, length, IfOk};
 ghost use Rattle.ml_typing.specs.declared.equation.Unknown.TheVariants.{Node};
 ghost use Rattle.ml_typing.specs.declared.equation.Term.TheVariants.{Of, Function};
 ghost use Rattle.ml_typing.specs.Written.{Names};

@@ -2,7 +2,7 @@
 ghost use Rattle.std.specs.Prelude.{◌≡◌, ℕ, [], ◌∷◌, ◌++◌, map, IfOk};
 ghost use Rattle.std.specs.Option.{option_map};
 ghost use Rattle.ml_typing.specs.declared.equation.Unknown.TheVariants.{Node};
-ghost use Rattle.ml_typing.specs.declared.equation.Term.TheVariants.{Of, Tuple};
+ghost use Rattle.ml_typing.specs.declared.equation.Term.TheVariants.{Tuple};
 ghost use Rattle.ml_typing.specs.Written.{Names};
 ghost use Rattle.ml_typing.specs.Rows.{equation, type_of, at, each_is, argument_is, fields_are};
 ghost use Rattle.ml_typing.specs.Steps.{expression, expr_kind, field_expr, operator, both, branch_is, last_is};

@@ -1,8 +1,7 @@
 //! The steps of expressions: those of an expression's parts from left to right, then its own.
-ghost use Rattle.std.specs.Prelude.{◌≡◌, ℕ, [], ◌∷◌, ◌++◌, None, Some, map, OnOk, IfOk};
+ghost use Rattle.std.specs.Prelude.{◌≡◌, ◌++◌, None, Some, map, OnOk};
 ghost use Rattle.std.specs.Option.{option_map};
 ghost use Rattle.ml_typing.specs.declared.equation.Term.TheVariants.{Of};
-ghost use Rattle.ml_typing.specs.Written.{Names};
 ghost use Rattle.ml_typing.specs.Rows.{steps_of, steps_of_any, all_steps, field_parts};
 ghost use Rattle.ml_typing.specs.Steps.{expression, expr_kind, field_expr, arm, bind, arms_steps, bind_steps, binds_steps};
 ghost use Rattle.ml_typing.specs.Typing.{names_of};

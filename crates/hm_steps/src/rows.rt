@@ -1,5 +1,5 @@
 //! What rows of patterns and expressions have in common: names, constructors and records.
-ghost use Rattle.std.specs.Prelude.{◌≡◌, ℕ, [], ◌∷◌, ◌++◌, IfOk, None, Some};
+ghost use Rattle.std.specs.Prelude.{◌≡◌, ℕ, IfOk, Some};
 ghost use Rattle.ml_typing.specs.Rows.{name_term, con_term, named_con, named_argument, declared_record, declared_field};
 ghost use Rattle.ml_typing.specs.Typing.{find, names_of};
 
