@@ -1,0 +1,6 @@
+pub mod Items
+pub mod Layers
+pub mod Runs
+pub mod Settings
+pub mod Stacks
+pub mod Tops
