@@ -17,17 +17,21 @@ use Rattle.ml_words.specs.Named.{targets}
 use Rattle.ml_functions.specs.Table.{IsTable}
 use Rattle.ml_values.specs.declared.value.Word.{Word}
 use Rattle.ml_values.specs.Shown.{value}
-use Rattle.ml_steps.specs.declared.world.World.{World}
+use Rattle.ml_steps.specs.declared.world.Written.{Written}
 use Rattle.ml_steps.specs.Worlds.{top_value}
 use Rattle.ml_run.specs.declared.items.Top.{Top}
 use Rattle.ml_run.specs.Stack.{Tells}
 use Rattle.ml_run.specs.declared.tables.Tables.{Tables}
 
+-- the declarations that a list points to
+abbrev pub decls_of : List Written → List Decl
+decls_of list = map (λ w. w.decl.now) list
+
 -- the tables are those of the program
 pub record IsProgram (s : Scoped) (t : Tables) : Type 0 where
   pub scoped : t.tools.scoped.now ≡ s
   pub functions : IsTable t.functions.places.now t.functions.list.now (functions_of (targets s) s.program.items)
-  pub decls : map (λ w. w.decl.now) t.decls.now ≡ flat_map (λ i. m.declarations_of i.kind) s.program.items
+  pub decls : decls_of t.decls.now ≡ flat_map (λ i. m.declarations_of i.kind) s.program.items
   pub append : t.append ≡ m.first_binder (slice_get s.program.items 6)
 
 -- the values of the top-level names are those that these names stand for

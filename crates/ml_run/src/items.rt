@@ -127,7 +127,7 @@ fn item_names<'t, 'a>(
 
 /// The weight of an item; an item of types has no nodes.
 fn item_weight(kind: &ItemKind) -> Result<u64, NoMemory>
-    ensures { IfOk result (λ words. words ≡ m.item_weight Event kind.now) }
+    ensures { (s : Setting Event) → IfOk result (λ words. words ≡ m.item_weight Event s kind.now) }
 {
     match kind {
         ItemKind::Types(_) => Ok(64),
@@ -218,14 +218,14 @@ pub fn set_tops<'a>(
 }
 
 /// A top-level name takes its value.
+#[tactic(auto, using(crate::proofs::Tops::holds_set))]
 fn set_top<'a>(tops: &mut [Option<Word<'a>>], top: Top<'a>) -> Result<(), NoMemory>
     ensures { (before : Bindings) → Holds tops.old before → OnOk result (Holds tops.new ((top.entry.name, value top.entry.word) ∷ before)) }
 {
-    match tops.get_mut(top.name as usize) {
-        Some(slot) => {
-            *slot = Some(top.word);
-            Ok(())
-        }
-        None => Err(NoMemory),
+    let name = top.name as usize;
+    if name < tops.len() {
+        tops[name] = Some(top.word);
+        return Ok(());
     }
+    Err(NoMemory)
 }

@@ -1,5 +1,5 @@
--- The values and the names of an item, step by step.
-use Rattle.std.proofs.Common.{◌≡◌, ℕ, Bool, List, [], ◌∷◌, ◌++◌, map, refl, sym, ap, ◌∙◌}
+-- The values and the names that the bindings of an item bind, step by step, and the item around them.
+use Rattle.std.proofs.Common.{◌≡◌, ℕ, Bool, List, [], ◌∷◌, ◌++◌, map, refl, sym, ap, subst, ◌∙◌}
 use Rattle.std.proofs.lemmas.List.{append-nil, append_assoc}
 use Rattle.ml_tree.specs.declared.expr.Bind.{Bind}
 use Rattle.ml_tree.specs.declared.program.ItemKind.{ItemKind}
@@ -12,6 +12,8 @@ use Rattle.ml_meaning.specs.Programs as m
 use Rattle.ml_meaning.specs.Runs.{Run, Done, Stop, Stopped, after, ◌>>=◌}
 use Rattle.ml_meaning.specs.Tellings.{Last, Setting, finish}
 use Rattle.ml_meaning.specs.Values.{Value}
+use Rattle.ml_steps.specs.declared.world.World.{World}
+use Rattle.ml_steps.specs.Worlds.{setting_of}
 use Rattle.ml_run.specs.Stack.{Began, Tells, bound_run, fitted_run, values_onto, values_run}
 use Rattle.ml_run.proofs.Runs.{after_nil, after_after, bind_bind, bind_as, tells_bind, tells_value, tells_told, tells_on, began_bind, began_told, tells_from}
 
@@ -85,14 +87,53 @@ module _ (s : Setting Event) (fuel : ℕ) where
   names_on a o n rec bs vs h g =
       tells_on a o n (m.item_run Event s fuel (item.Let rec bs)) (fitted_run s bs vs) (tells_value a o (values_run s bs fuel) vs (fitted_run s bs) h) g
 
--- ---- an item, in a setting that tells the events as they are
+-- ---- an item
 
 abbrev entry : ℕ → List Event
-entry w = event.Enter w ∷ (event.Open ∷ [])
+entry weight = event.Enter weight ∷ (event.Open ∷ [])
 
-module _ (s : Setting Event) (plain : (e : Event) → s.told e ≡ e ∷ []) (fuel : ℕ) (kind : ItemKind) where
+abbrev exit : ℕ → List Event
+exit weight = event.Close ∷ (event.Leave weight ∷ [])
+
+module _ (w : World) (fuel : ℕ) (kind : ItemKind) where
+  abbrev weight_of : ℕ
+  weight_of = m.item_weight Event (setting_of w) kind
+
   abbrev leaving : p.Env → Run Event p.Env
-  leaving xs = finish Event s (Last (m.item_weight Event kind)) xs
+  leaving xs = finish Event (setting_of w) (Last weight_of) xs
 
-  entered : (a b : List Event) (w : ℕ) → w ≡ m.item_weight Event kind → b ≡ a ++ entry w → Tells a b (m.item_evaluated Event s fuel kind) (m.item_run Event s fuel kind >>= leaving)
-  entered a b w is e = ?
+  abbrev named_run : Run Event p.Env
+  named_run = m.item_run Event (setting_of w) fuel kind
+
+  abbrev whole_run : Run Event p.Env
+  whole_run = m.item_evaluated Event (setting_of w) fuel kind
+
+  entered : (a o : List Event) (weight : ℕ) → weight ≡ weight_of → o ≡ a ++ entry weight → Tells a o whole_run (named_run >>= leaving)
+  entered a o weight is e = tells_from a o (entry weight_of) (named_run >>= leaving) (e ∙ ap (λ v. a ++ entry v) is)
+
+  -- the item has begun, and its names are there
+  pub item_named : (a o n : List Event) (weight : ℕ) (xs : p.Env) → weight ≡ weight_of → o ≡ a ++ entry weight → Tells o n named_run (Done [] xs) → Tells a n whole_run (leaving xs)
+  item_named a o n weight xs is e h = entered a o weight is e ∙ tells_value o n named_run xs leaving h
+
+  pub item_left : (a o n b : List Event) (weight : ℕ) (xs : p.Env) → weight ≡ weight_of → o ≡ a ++ entry weight → Tells o n named_run (Done [] xs) → b ≡ n ++ exit weight → Tells a b whole_run (Done [] xs)
+  item_left a o n b weight xs is e h left =
+      item_named a o n weight xs is e h
+      ∙ tells_told n n b (exit weight_of) (leaving xs) (Done [] xs) refl (left ∙ ap (λ v. n ++ exit v) is)
+
+  pub item_end : (a o n : List Event) (weight : ℕ) (end : Stopped) → weight ≡ weight_of → o ≡ a ++ entry weight → Tells o n named_run (Stop [] end) → Tells a n whole_run (Stop [] end)
+  item_end a o n weight end is e h = entered a o weight is e ∙ tells_bind o n named_run (Stop [] end) leaving h
+
+  -- as far as the events were told before memory was short
+  pub item_entering : (a o : List Event) (weight : ℕ) → weight ≡ weight_of → Begins o (a ++ entry weight) → Began a o whole_run
+  item_entering a o weight is h =
+      let P : ℕ → Type 0 = λ v. Begins o (a ++ entry v) in
+      began_told a o (entry weight_of) (named_run >>= leaving) (subst P is h)
+
+  pub item_began : (a o n : List Event) (weight : ℕ) → weight ≡ weight_of → o ≡ a ++ entry weight → Began o n named_run → Began a n whole_run
+  item_began a o n weight is e h =
+      tells_on a o n whole_run (named_run >>= leaving) (entered a o weight is e) (began_bind o n named_run leaving h)
+
+  pub item_leaving : (a o n b : List Event) (weight : ℕ) (xs : p.Env) → weight ≡ weight_of → o ≡ a ++ entry weight → Tells o n named_run (Done [] xs) → Begins b (n ++ exit weight) → Began a b whole_run
+  item_leaving a o n b weight xs is e h left =
+      let P : ℕ → Type 0 = λ v. Begins b (n ++ exit v) in
+      tells_on a n b whole_run (leaving xs) (item_named a o n weight xs is e h) (subst P is left)
