@@ -92,3 +92,12 @@ began_told a b es r (rest, e) = (
   rest ++ trace r,
   sym (append_assoc b rest (trace r)) ∙ (ap (λ l. l ++ trace r) e ∙ (append_assoc a es (trace r) ∙ ap (λ l. a ++ l) (sym (trace_after es r)))),
 )
+
+pub began_stop : {A : Type 0} (a b es : List Event) (end : Stopped) (r : Run Event A) → b ≡ a ++ es → r ≡ Stop es end → Began a b r
+began_stop a b es end r e is = ([], append-nil b ∙ (e ∙ ap (λ q. a ++ trace q) (sym is)))
+
+pub tells_stop : {A : Type 0} (a b es : List Event) (end : Stopped) (r : Run Event A) → b ≡ a ++ es → r ≡ Stop es end → Tells a b r (Stop [] end)
+tells_stop a b es end r e is = ap (after a) is ∙ ap (λ l. Stop l end) (sym e ∙ sym (append-nil b))
+
+pub tells_done : {A : Type 0} (a : List Event) (v : A) (r : Run Event A) → r ≡ Done [] v → Tells a a r (Done [] v)
+tells_done a v r is = ap (after a) is
