@@ -1,6 +1,5 @@
 -- What a binding means, and the patterns of bindings.
 use Rattle.std.proofs.Common.{◌≡◌, ℕ, List, [], ◌∷◌, ◌++◌, map, Option, Some, None, refl, sym, ap, ◌∙◌}
-use Rattle.std.proofs.lemmas.List.{append-nil}
 use Rattle.std.specs.Option.{option_map}
 use Rattle.ml_tree.specs.declared.expr.Bind.{Bind, out-Bind, fold_out-Bind}
 use Rattle.ml_meaning.specs.declared.event.Event.{Event}
@@ -8,7 +7,7 @@ use Rattle.ml_meaning.specs.Evaluation.{ExprMeaning, ArmMeaning, BindMeaning, st
 use Rattle.ml_meaning.specs.Names.{References}
 use Rattle.ml_meaning.specs.Patterns as p
 use Rattle.ml_meaning.specs.Programs.{arm_step, bind_step, expr_step, field_step, bind_meaning, bound}
-use Rattle.ml_meaning.specs.Runs.{Run, Done, Stop}
+use Rattle.ml_meaning.specs.Runs.{Run}
 use Rattle.ml_meaning.specs.Tellings.{Meaning, NoMatch, Setting, fail}
 use Rattle.ml_meaning.specs.Values.{Value}
 use Rattle.ml_matching.specs.Fitting.{bind_fits, onto}
@@ -27,21 +26,14 @@ module _ (s : Setting Event) where
   all_fits [] = refl
   all_fits (b ∷ bs) = ap (λ f. f ∷ map (λ b. (bind_meaning Event s b).fits) bs) (fits_is b) ∙ ap (λ fs. p.fits s.names b.pat ∷ fs) (all_fits bs)
 
-  found_some : (o : Option p.Env) (xs : p.Env) → Some xs ≡ onto [] o → o ≡ Some xs
-  found_some None xs e = cc
-  found_some (Some ys) xs e = ap Some (sym (append-nil ys)) ∙ sym e
-
   found_none : (o : Option p.Env) → None ≡ onto [] o → o ≡ None
   found_none None e = refl
   found_none (Some ys) e = cc
 
-  -- what the match found is what the bindings bind
-  pub fitted_some : (binds : List Bind) (vs : List Value) (env : Env) → Some (names env) ≡ onto (names N.Nothing) (p.all_fit (bind_fits s.names binds) vs) → fitted_run s binds vs ≡ Done [] (names env)
-  fitted_some binds vs env e =
-      ap (λ fs. bound Event s (p.all_fit fs vs)) (all_fits binds)
-      ∙ ap (bound Event s) (found_some (p.all_fit (bind_fits s.names binds) vs) (names env) (e ∙ ap (λ l. onto l (p.all_fit (bind_fits s.names binds) vs)) nothing_is))
-
-  pub fitted_none : (binds : List Bind) (vs : List Value) → None ≡ onto (names N.Nothing) (p.all_fit (bind_fits s.names binds) vs) → fitted_run s binds vs ≡ fail Event s NoMatch
+  fitted_none : (binds : List Bind) (vs : List Value) → None ≡ onto (names N.Nothing) (p.all_fit (bind_fits s.names binds) vs) → fitted_run s binds vs ≡ fail Event s NoMatch
   fitted_none binds vs e =
       ap (λ fs. bound Event s (p.all_fit fs vs)) (all_fits binds)
       ∙ ap (bound Event s) (found_none (p.all_fit (bind_fits s.names binds) vs) (e ∙ ap (λ l. onto l (p.all_fit (bind_fits s.names binds) vs)) nothing_is))
+
+  pub unfitted : (binds : List Bind) (vs : List Value) (o : Option Env) → option_map names o ≡ onto (names N.Nothing) (p.all_fit (bind_fits s.names binds) vs) → o ≡ None → fitted_run s binds vs ≡ fail Event s NoMatch
+  unfitted binds vs o e is = fitted_none binds vs (ap (option_map names) (sym is) ∙ e)
