@@ -208,7 +208,7 @@ module _ (s : Setting Event) (k : ExprKind) (node : ℕ) (here : Here) where
 module _ (s : Setting Event) where
   -- ---- where more than the value counts
 
-  form_at : (x : Expr) (l : ExprKind-F ExprKind Arm Bind Expr FieldExpr) (v : ExprKind) → (out-Expr x).kind ≡ v → roll-ExprKind l ≡ v → (expr_meaning Event s x).form ≡ (step Event s (meant s l) (out-Expr x).id).form
+  pub form_at : (x : Expr) (l : ExprKind-F ExprKind Arm Bind Expr FieldExpr) (v : ExprKind) → (out-Expr x).kind ≡ v → roll-ExprKind l ≡ v → (expr_meaning Event s x).form ≡ (step Event s (meant s l) (out-Expr x).id).form
   form_at x l v is rolls = form_is s x ∙ ap (λ m. m.form) (kind_is s (out-Expr x).kind (out-Expr x).id l v is rolls)
 
   pub tuple_parts : (x : Expr) (es : List Expr) → (out-Expr x).kind ≡ E.Tuple es → several (expr_meaning Event s x) ≡ Some (map (evaluate Event s) es)

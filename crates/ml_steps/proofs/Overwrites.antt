@@ -1,0 +1,47 @@
+-- What an overwrite does, by the construction that is written into the block.
+use Rattle.std.proofs.Common.{◌≡◌, ℕ, List, [], ◌∷◌, Some, refl, ap, ◌∙◌}
+use Rattle.ml_tree.specs.declared.pattern.ConName.{ConName}
+use Rattle.ml_tree.specs.declared.expr.Expr.{Expr, out-Expr}
+use Rattle.ml_tree.specs.declared.expr.ExprKind.TheOpen as e
+use Rattle.ml_tree.specs.declared.expr.ExprKind.TheVariants as E
+use Rattle.ml_meaning.specs.declared.event.Event.{Event}
+use Rattle.ml_meaning.specs.Names.{constructor_place}
+use Rattle.ml_meaning.specs.Runs.{Run, ◌>>=◌}
+use Rattle.ml_meaning.specs.Values.{Value}
+use Rattle.ml_meaning.specs.Tellings.{Setting, Meaning}
+use Rattle.ml_meaning.specs.Evaluation as m
+use Rattle.ml_meaning.specs.Evaluation.{Form, Ordinary, Named, Several, Builds, inside}
+use Rattle.ml_meaning.specs.Programs.{evaluate, expr_meaning}
+use Rattle.ml_values.specs.Shown.{names}
+use Rattle.ml_steps.specs.declared.frame.Here.{Here}
+use Rattle.ml_steps.specs.Left.{at_place, calls_of, overwritten_run}
+use Rattle.ml_steps.proofs.KindRuns.{form_at}
+use Rattle.ml_steps.proofs.RunsVisits.{after_none, bind_same}
+
+module _ (s : Setting Event) (node : ℕ) (here : Here) where
+  abbrev pub over : Form (Meaning Event) → Run Event Value
+  over form = at_place s (m.overwritten Event s node form) here
+
+  inside_is : (form : Form (Meaning Event)) → over (inside form) ≡ over form
+  inside_is Ordinary = refl
+  inside_is (Named o) = refl
+  inside_is (Several ms) = refl
+  inside_is (Builds place ms) = refl
+
+  -- the parts, and then the block with them
+  builds_is : (place : ℕ) (ms : List (Meaning Event)) → over (Builds (Some place) ms) ≡ (m.values Event s ms (calls_of s here) (names here.env) >>= overwritten_run s node place here)
+  builds_is place ms = bind_same (m.values Event s ms (calls_of s here) (names here.env)) _ _ (λ vs. after_none (overwritten_run s node place here vs))
+
+  pub over_paren : (x inner : Expr) → (out-Expr x).kind ≡ E.Paren inner → over (expr_meaning Event s x).form ≡ over (expr_meaning Event s inner).form
+  over_paren x inner is =
+      ap over (form_at s x (e.Paren inner) _ is (E.rolls-Paren inner)) ∙ inside_is (expr_meaning Event s inner).form
+
+  pub over_cons : (x a b : Expr) → (out-Expr x).kind ≡ E.Cons a b → over (expr_meaning Event s x).form ≡ (m.values Event s (evaluate Event s a ∷ (evaluate Event s b ∷ [])) (calls_of s here) (names here.env) >>= overwritten_run s node 1 here)
+  over_cons x a b is =
+      ap over (form_at s x (e.Cons a b) _ is (E.rolls-Cons a b)) ∙ builds_is 1 (evaluate Event s a ∷ (evaluate Event s b ∷ []))
+
+  pub over_con : (x a : Expr) (name : ConName) (place : ℕ) → (out-Expr x).kind ≡ E.Con name (Some a) → constructor_place s.names name (out-Expr x).id ≡ Some place → over (expr_meaning Event s x).form ≡ (m.values Event s (m.fields_of Event s (m.field_count Event s (s.names (out-Expr x).id)) (expr_meaning Event s a)) (calls_of s here) (names here.env) >>= overwritten_run s node place here)
+  over_con x a name place is at =
+      ap over (form_at s x (e.Con name (Some a)) _ is (E.rolls-Con name (Some a)))
+      ∙ (ap (λ p. over (Builds p (m.fields_of Event s (m.field_count Event s (s.names (out-Expr x).id)) (expr_meaning Event s a)))) at
+      ∙ builds_is place (m.fields_of Event s (m.field_count Event s (s.names (out-Expr x).id)) (expr_meaning Event s a)))
