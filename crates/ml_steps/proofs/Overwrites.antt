@@ -1,5 +1,5 @@
 -- What an overwrite does, by the construction that is written into the block.
-use Rattle.std.proofs.Common.{◌≡◌, ℕ, List, [], ◌∷◌, Some, refl, ap, ◌∙◌}
+use Rattle.std.proofs.Common.{◌≡◌, ℕ, List, [], ◌∷◌, Some, refl, sym, ap, ◌∙◌}
 use Rattle.ml_tree.specs.declared.pattern.ConName.{ConName}
 use Rattle.ml_tree.specs.declared.expr.Expr.{Expr, out-Expr}
 use Rattle.ml_tree.specs.declared.expr.ExprKind.TheOpen as e
@@ -13,8 +13,10 @@ use Rattle.ml_meaning.specs.Evaluation as m
 use Rattle.ml_meaning.specs.Evaluation.{Form, Ordinary, Named, Several, Builds, inside}
 use Rattle.ml_meaning.specs.Programs.{evaluate, expr_meaning}
 use Rattle.ml_values.specs.Shown.{names}
+use Rattle.ml_steps.specs.declared.frame.Finish.TheVariants as last
 use Rattle.ml_steps.specs.declared.frame.Here.{Here}
-use Rattle.ml_steps.specs.Left.{at_place, calls_of, overwritten_run}
+use Rattle.ml_steps.specs.declared.frame.Parts.{Parts}
+use Rattle.ml_steps.specs.Left.{all_parts_run, at_place, calls_of, overwritten_run, parts_runs}
 use Rattle.ml_steps.proofs.KindRuns.{form_at}
 use Rattle.ml_steps.proofs.RunsVisits.{after_none, bind_same}
 
@@ -40,8 +42,9 @@ module _ (s : Setting Event) (node : ℕ) (here : Here) where
   over_cons x a b is =
       ap over (form_at s x (e.Cons a b) _ is (E.rolls-Cons a b)) ∙ builds_is 1 (evaluate Event s a ∷ (evaluate Event s b ∷ []))
 
-  pub over_con : (x a : Expr) (name : ConName) (place : ℕ) → (out-Expr x).kind ≡ E.Con name (Some a) → constructor_place s.names name (out-Expr x).id ≡ Some place → over (expr_meaning Event s x).form ≡ (m.values Event s (m.fields_of Event s (m.field_count Event s (s.names (out-Expr x).id)) (expr_meaning Event s a)) (calls_of s here) (names here.env) >>= overwritten_run s node place here)
-  over_con x a name place is at =
+  pub over_con : (x a : Expr) (name : ConName) (place count : ℕ) (ps : Parts) → (out-Expr x).kind ≡ E.Con name (Some a) → constructor_place s.names name (out-Expr x).id ≡ Some place → count ≡ m.field_count Event s (s.names (out-Expr x).id) → parts_runs s ps ≡ m.fields_of Event s count (expr_meaning Event s a) → over (expr_meaning Event s x).form ≡ all_parts_run s ps (last.Overwrite node place) here
+  over_con x a name place count ps is at counted parts =
       ap over (form_at s x (e.Con name (Some a)) _ is (E.rolls-Con name (Some a)))
       ∙ (ap (λ p. over (Builds p (m.fields_of Event s (m.field_count Event s (s.names (out-Expr x).id)) (expr_meaning Event s a)))) at
-      ∙ builds_is place (m.fields_of Event s (m.field_count Event s (s.names (out-Expr x).id)) (expr_meaning Event s a)))
+      ∙ (builds_is place (m.fields_of Event s (m.field_count Event s (s.names (out-Expr x).id)) (expr_meaning Event s a))
+      ∙ ap (λ ms. m.values Event s ms (calls_of s here) (names here.env) >>= overwritten_run s node place here) (sym (parts ∙ ap (λ n. m.fields_of Event s n (expr_meaning Event s a)) counted))))
