@@ -73,6 +73,10 @@ module _ (s : Setting Event) where
   runs_of : (es : List Expr) → map (λ a. a.run) (map (expr_meaning Event s) es) ≡ map (evaluate Event s) es
   runs_of es = map-map (λ a. a.run) (expr_meaning Event s) es
 
+-- the values of these, and then what is done with them
+abbrev pub all_run : Setting Event → Here → List (Meaning Event) → (List Value → Run Event Value) → Run Event Value
+all_run s here ms rest = m.values Event s ms (calls_of s here) (names here.env) >>= rest
+
 module _ (s : Setting Event) (k : ExprKind) (node : ℕ) (here : Here) where
   runs : (l : ExprKind-F ExprKind Arm Bind Expr FieldExpr) (v : ExprKind) → k ≡ v → roll-ExprKind l ≡ v → kind_run s k node here ≡ at_place s (step Event s (meant s l) node).run here
   runs l v is rolls = ap (λ m. at_place s m.run here) (kind_is s k node l v is rolls)
@@ -140,35 +144,31 @@ module _ (s : Setting Event) (k : ExprKind) (node : ℕ) (here : Here) where
 
   -- ---- with several parts first
 
-  -- the values of these, and then what is done with them
-  abbrev pub all_run : List (Meaning Event) → (List Value → Run Event Value) → Run Event Value
-  all_run ms rest = m.values Event s ms (calls_of s here) (names here.env) >>= rest
-
-  pub run_con : (name : ConName) (a : Expr) (place : ℕ) → k ≡ E.Con name (Some a) → constructor_place s.names name node ≡ Some place → kind_run s k node here ≡ all_run (m.fields_of Event s (m.field_count Event s (s.names node)) (expr_meaning Event s a)) (finish_run s (last.Build node place) here)
+  pub run_con : (name : ConName) (a : Expr) (place : ℕ) → k ≡ E.Con name (Some a) → constructor_place s.names name node ≡ Some place → kind_run s k node here ≡ all_run s here (m.fields_of Event s (m.field_count Event s (s.names node)) (expr_meaning Event s a)) (finish_run s (last.Build node place) here)
   run_con name a place is at =
       runs (e.Con name (Some a)) _ is (E.rolls-Con name (Some a))
-      ∙ ap (λ p. all_run (m.fields_of Event s (m.field_count Event s (s.names node)) (expr_meaning Event s a)) (λ vs. m.block Event s node p vs >>= finish Event s (mode_of here.mode))) at
+      ∙ ap (λ p. all_run s here (m.fields_of Event s (m.field_count Event s (s.names node)) (expr_meaning Event s a)) (λ vs. m.block Event s node p vs >>= finish Event s (mode_of here.mode))) at
 
   pub run_constant : (name : ConName) (place : ℕ) → k ≡ E.Con name None → constructor_place s.names name node ≡ Some place → kind_run s k node here ≡ finish Event s (mode_of here.mode) (Constant place)
   run_constant name place is at =
       runs (e.Con name None) _ is (E.rolls-Con name None)
       ∙ (ap (λ p. m.constant Event s (mode_of here.mode) p) at ∙ after_none (finish Event s (mode_of here.mode) (Constant place)))
 
-  pub run_cons : (a b : Expr) → k ≡ E.Cons a b → kind_run s k node here ≡ all_run (evaluate Event s a ∷ (evaluate Event s b ∷ [])) (finish_run s (last.Build node 1) here)
+  pub run_cons : (a b : Expr) → k ≡ E.Cons a b → kind_run s k node here ≡ all_run s here (evaluate Event s a ∷ (evaluate Event s b ∷ [])) (finish_run s (last.Build node 1) here)
   run_cons a b is = runs (e.Cons a b) _ is (E.rolls-Cons a b)
 
-  pub run_tuple : (es : List Expr) → k ≡ E.Tuple es → kind_run s k node here ≡ all_run (map (evaluate Event s) es) (finish_run s (last.Build node 0) here)
+  pub run_tuple : (es : List Expr) → k ≡ E.Tuple es → kind_run s k node here ≡ all_run s here (map (evaluate Event s) es) (finish_run s (last.Build node 0) here)
   run_tuple es is =
       runs (e.Tuple es) _ is (E.rolls-Tuple es)
-      ∙ ap (λ ms. all_run ms (finish_run s (last.Build node 0) here)) (runs_of s es)
+      ∙ ap (λ ms. all_run s here ms (finish_run s (last.Build node 0) here)) (runs_of s es)
 
-  pub run_fields : (fs : List FieldExpr) → k ≡ E.Fields fs → kind_run s k node here ≡ all_run (map (λ f. evaluate Event s f.expr) fs) (record_run s node fs here)
+  pub run_fields : (fs : List FieldExpr) → k ≡ E.Fields fs → kind_run s k node here ≡ all_run s here (map (λ f. evaluate Event s f.expr) fs) (record_run s node fs here)
   run_fields fs is =
       runs (e.Fields fs) _ is (E.rolls-Fields fs)
-      ∙ (ap (λ ps. all_run (map (λ f. f.1) ps) (λ vs. m.arranged Event s ps vs >>= λ us. m.block Event s node (Some 0) us >>= finish Event s (mode_of here.mode))) (map_same (field_meaning s) (field_part s) (field_is s) fs)
-      ∙ ap (λ ms. all_run ms (record_run s node fs here)) (map-map (λ p. p.1) (field_part s) fs))
+      ∙ (ap (λ ps. all_run s here (map (λ f. f.1) ps) (λ vs. m.arranged Event s ps vs >>= λ us. m.block Event s node (Some 0) us >>= finish Event s (mode_of here.mode))) (map_same (field_meaning s) (field_part s) (field_is s) fs)
+      ∙ ap (λ ms. all_run s here ms (record_run s node fs here)) (map-map (λ p. p.1) (field_part s) fs))
 
-  pub run_index : (a b : Expr) → k ≡ E.Index a b → kind_run s k node here ≡ all_run (evaluate Event s a ∷ (evaluate Event s b ∷ [])) (finish_run s (last.Operate node operation.StringGet) here)
+  pub run_index : (a b : Expr) → k ≡ E.Index a b → kind_run s k node here ≡ all_run s here (evaluate Event s a ∷ (evaluate Event s b ∷ [])) (finish_run s (last.Operate node operation.StringGet) here)
   run_index a b is =
       runs (e.Index a b) _ is (E.rolls-Index a b)
       ∙ after_two (inner_run s b here) (inner_run s a here)
@@ -176,11 +176,11 @@ module _ (s : Setting Event) (k : ExprKind) (node : ℕ) (here : Here) where
           (finish_run s (last.Operate node operation.StringGet) here)
           (λ x y. refl)
 
-  pub run_let : (recursive : Bool) (bs : List Bind) (body : Expr) → k ≡ E.Let recursive bs body → kind_run s k node here ≡ all_run (map (bind_value s) bs) (bound_run s bs body here)
+  pub run_let : (recursive : Bool) (bs : List Bind) (body : Expr) → k ≡ E.Let recursive bs body → kind_run s k node here ≡ all_run s here (map (bind_value s) bs) (bound_run s bs body here)
   run_let recursive bs body is =
       runs (e.Let recursive bs body) _ is (E.rolls-Let recursive bs body)
-      ∙ (ap (λ ms. all_run ms (λ vs. m.matched Event s (all_fit (map (λ b. b.fits) (map (bind_meaning Event s) bs)) vs) (λ xs. evaluate Event s body (calls_of s here) (mode_of here.mode) (xs ++ names here.env)))) (map-map (λ b. b.value) (bind_meaning Event s) bs)
-      ∙ ap (λ fs. all_run (map (bind_value s) bs) (λ vs. m.matched Event s (all_fit fs vs) (λ xs. evaluate Event s body (calls_of s here) (mode_of here.mode) (xs ++ names here.env)))) (map-map (λ b. b.fits) (bind_meaning Event s) bs ∙ map_same (λ b. (bind_meaning Event s b).fits) (λ b. fits s.names b.pat) (bind_fits s) bs))
+      ∙ (ap (λ ms. all_run s here ms (λ vs. m.matched Event s (all_fit (map (λ b. b.fits) (map (bind_meaning Event s) bs)) vs) (λ xs. evaluate Event s body (calls_of s here) (mode_of here.mode) (xs ++ names here.env)))) (map-map (λ b. b.value) (bind_meaning Event s) bs)
+      ∙ ap (λ fs. all_run s here (map (bind_value s) bs) (λ vs. m.matched Event s (all_fit fs vs) (λ xs. evaluate Event s body (calls_of s here) (mode_of here.mode) (xs ++ names here.env)))) (map-map (λ b. b.fits) (bind_meaning Event s) bs ∙ map_same (λ b. (bind_meaning Event s b).fits) (λ b. fits s.names b.pat) (bind_fits s) bs))
 
   pub run_apply : (f : Expr) (es : List Expr) → k ≡ E.Apply f es → kind_run s k node here ≡ application_run s node f es here
   run_apply f es is =

@@ -22,7 +22,9 @@ returns-in-Cons t c =
 pub returns-in-Some : goal.returns-in-Some
 returns-in-Some t c =
     let s = setting_of c.args.world in
-    let h = c.in-Con-default-Some in
+    let i = c.in-Con-default-Some.is in
+    let j = c.in-Con-default-Some.arg-is in
+    let l = c.in-Con-default-Some.arg-is' in
     steps_as s c.args.told.now.items c.visit_parts-in-Some.new.told.items c.visit_parts-in-Some.result _ _
     (over_con s c.args.node c.args.here c.args.built.now c.get-in-Some.result.now c.in-Con-default-Some.name c.in-Some.place c.field_count.result c.fields_of.result
     ?
