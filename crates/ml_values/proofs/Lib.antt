@@ -1,0 +1,4 @@
+pub mod Layers
+pub mod Puts
+pub mod Runs
+pub mod Walks

@@ -1,0 +1,3 @@
+pub mod Givings
+pub mod Shown
+pub mod Telling
