@@ -20,7 +20,7 @@ use Rattle.ml_meaning.specs.Tellings.{Setting, NoMatch, fail, or_stuck}
 use Rattle.ml_meaning.specs.Values as v
 use Rattle.ml_meaning.specs.Values.{Value, Values, no_values, packed}
 use Rattle.ml_values.specs.declared.told.Mode.{Mode}
-use Rattle.ml_values.specs.declared.told.Mode.TheVariants as mode
+use Rattle.ml_values.specs.declared.told.Mode.TheVariants as M
 use Rattle.ml_values.specs.declared.value.Code.TheVariants as C
 use Rattle.ml_values.specs.declared.value.Env.{Env}
 use Rattle.ml_values.specs.declared.value.Pair.{Pair}
@@ -28,7 +28,7 @@ use Rattle.ml_values.specs.declared.value.Word.TheVariants as W
 use Rattle.ml_values.specs.declared.value.Words.{Words}
 use Rattle.ml_values.specs.declared.value.Words.TheVariants as L
 use Rattle.ml_values.specs.Shown.{code_of, names, value, values, values_list}
-use Rattle.ml_values.specs.Telling.{mode_of}
+use Rattle.ml_values.specs.Telling.{closes, mode_of}
 use Rattle.ml_values.proofs.Layers.{empty_is, function_is}
 use Rattle.ml_values.proofs.Walks.{list_more}
 use Rattle.ml_steps.specs.declared.frame.Here.{Here}
@@ -70,7 +70,7 @@ module _ (s : Setting Event) where
 
   -- ---- what a call gives, applied to the arguments that are left
 
-  pub called_more : (node : ℕ) (here : Here) (rest : Words) (r : Bor Pair) (code : v.Code) (captured all : List Value) → rest ≡ L.And r → called_run s node here (values_list rest) code captured all ≡ (call_of s here.fuel mode.Inner code captured all >>= applied_run s node here (values_list rest))
+  pub called_more : (node : ℕ) (here : Here) (rest : Words) (r : Bor Pair) (code : v.Code) (captured all : List Value) → rest ≡ L.And r → called_run s node here (values_list rest) code captured all ≡ (call_of s here.fuel M.Inner code captured all >>= applied_run s node here (values_list rest))
   called_more node here rest r code captured all is =
       ap (λ us. m.called Event s (calls Event s here.fuel) (mode_of here.mode) us (applied_run s node here (values_list rest)) code captured all) (list_more rest r is)
 
@@ -81,12 +81,16 @@ module _ (world : World) where
   here_setting = setting_of world
 
   enters : (mode : Mode) (code : v.Code) → here_setting.told (m.entry Event here_setting (mode_of mode) code) ++ here_setting.told event.Open ≡ entered mode (m.call_weight Event here_setting code)
-  enters mode.Inner code = refl
-  enters (mode.Last old) code = refl
+  enters M.Inner code = refl
+  enters (M.Last old) code = refl
+
+  one_less : (n : ℕ) (mode : Mode) (code : v.Code) (held args : List Value) → call_of here_setting (suc n) mode code held args ≡ after (entered mode (m.call_weight Event here_setting code)) (code_run Event here_setting (calls Event here_setting n) code held args)
+  one_less n mode code held args = ap (λ es. after es (code_run Event here_setting (calls Event here_setting n) code held args)) (enters mode code)
 
   with_fuel : (fuel : ℕ) (mode : Mode) (code : v.Code) (held args : List Value) → fuel ≢ 0 → call_of here_setting fuel mode code held args ≡ after (entered mode (m.call_weight Event here_setting code)) (code_run Event here_setting (calls Event here_setting (fuel - 1)) code held args)
-  with_fuel zero mode code held args some = absurd (some refl)
-  with_fuel (suc n) mode code held args some = ap (λ es. after es (code_run Event here_setting (calls Event here_setting n) code held args)) (enters mode code)
+  with_fuel fuel mode code held args some =
+      let is : fuel ≡ suc (fuel - 1) = omega (arith, some) in
+      ap (λ k. call_of here_setting k mode code held args) is ∙ one_less (fuel - 1) mode code held args
 
   pub call_source : (fuel weight : ℕ) (mode : Mode) (node : ℕ) (f : Function) (held args : List Value) → fuel ≢ 0 → weight ≡ m.call_weight Event here_setting (v.Source node) → here_setting.code node ≡ Some (table.code_of f) → call_of here_setting fuel mode (v.Source node) held args ≡ after (entered mode weight) (body_of_call here_setting (table.code_of f) (fuel - 1) (closed_env here_setting node f.own f.captures.now held) args)
   call_source fuel weight mode node f held args some weighs is =
@@ -95,7 +99,12 @@ module _ (world : World) where
       ∙ (ap (λ o. after (entered mode weight) (or_stuck o >>= λ g. body_run Event here_setting g (calls Event here_setting (fuel - 1)) (bind_names Event here_setting g.captures held (own_name Event here_setting g.own (v.Function (v.Source node) (packed held) no_values))) g.body args)) is
       ∙ ap (after (entered mode weight)) (after-nil _)))
 
-  pub call_primitive : (fuel weight : ℕ) (mode : Mode) (op : Op) (held args : List Value) → fuel ≢ 0 → weight ≡ m.call_weight Event here_setting (v.Primitive op) → call_of here_setting fuel mode (v.Primitive op) held args ≡ after (entered mode weight) (finished here_setting (mode.Last 64) (operate Event here_setting None op args))
+  pub call_primitive : (fuel weight : ℕ) (mode : Mode) (op : Op) (held args : List Value) → fuel ≢ 0 → weight ≡ m.call_weight Event here_setting (v.Primitive op) → call_of here_setting fuel mode (v.Primitive op) held args ≡ after (entered mode weight) (finished here_setting (M.Last 64) (operate Event here_setting None op args))
   call_primitive fuel weight mode op held args some weighs =
       with_fuel fuel mode (v.Primitive op) held args some
       ∙ ap (λ k. after (entered mode k) (code_run Event here_setting (calls Event here_setting (fuel - 1)) (v.Primitive op) held args)) (sym weighs)
+
+  -- in tail position the region is closed
+  pub closes_is : (mode : Mode) → t.closes Event here_setting (mode_of mode) ≡ closes mode
+  closes_is M.Inner = refl
+  closes_is (M.Last weight) = refl

@@ -12,16 +12,14 @@ pub returns-in-Some : goal.returns-in-Some
 returns-in-Some c =
     let s = setting_of c.args.world in
     ap (after c.args.told.now.items)
-        (passes_taken s c.args.arms.now c.args.from c.loop-at.at c.args.here (value c.args.word) c.index-arms-at.result c.in-Some.env c.loop-at-test.true ?
+        (passes_taken s c.args.arms.now c.args.from c.loop-at.at c.args.here (value c.args.word) c.index-arms-at.result c.in-Some.env c.loop-at-test.true c.index-arms-at.is
             (ap (option_map names) (sym c.in-Some.is) ∙ c.in_ok-env.ensures) c.loop-at.invariant
         ∙ sym (c.taken.ensures s))
 
 pub loop-at-preserved : goal.loop-at-preserved
 loop-at-preserved c =
     let s = setting_of c.args.world in
-    let is = c.in_default.is in
-    let look = c.index-arms-at.is in
-    passes_step s c.args.arms.now c.args.from c.loop-at.at c.args.here (value c.args.word) c.index-arms-at.result c.loop-at-test.true ?
+    passes_step s c.args.arms.now c.args.from c.loop-at.at c.args.here (value c.args.word) c.index-arms-at.result c.loop-at-test.true c.index-arms-at.is
         (sym (none_found c.in_ok-env.field-0 c.in_default.not-Some) ∙ c.in_ok-env.ensures) c.loop-at.invariant
 
 pub returns : goal.returns
