@@ -1,79 +1,37 @@
 //! When a value fits a pattern.
-ghost use Rattle.std.specs.Prelude.{◌≡◌};
+ghost use Rattle.std.specs.Prelude.{◌≡◌, [], Some, IfOk, map};
+ghost use Rattle.std.specs.Option.{option_map};
 ghost use Rattle.ml_words.specs.Named.{targets};
 ghost use Rattle.ml_values.specs.Shown.{value, values_list, names};
 ghost use Rattle.ml_meaning.specs.Patterns as p;
-ghost use Rattle.ml_matching.specs.Fitting.{Finds, param_fits, bind_fits};
+ghost use Rattle.ml_matching.specs.Fitting.{Finds, onto, onto_found, param_fits, bind_fits, pattern_meaning, kind_meaning, field_meaning, field_fits};
 
+use crate::parts::{block, cell, is_character, is_constant, is_number, is_text, only};
 use ml_tree::{Bind, FieldPat, Param, Pat, PatKind};
 use ml_values::{Env, Tools, Word, Words, bind, word_at};
-use ml_words::{constructor_place, field_place, text_order, wrapped};
+use ml_words::{constructor_place, field_place};
 use oxml_base::NoMemory;
-use std::cmp::Ordering;
 
-/// The parts of a block of this place.
-fn block<'a>(word: Word<'a>, place: Option<u32>) -> Option<Words<'a>> {
-    match word {
-        Word::Block(at, parts) => if Some(at) == place { Some(parts) } else { None },
-        _ => None,
-    }
-}
-
-/// The head and the tail of a list that is not empty.
-fn cell<'a>(word: Word<'a>) -> Option<(Word<'a>, Word<'a>)> {
-    match block(word, Some(1)) {
-        Some(Words::And(head)) => match head.rest {
-            Words::And(tail) => match tail.rest {
-                Words::Empty => Some((head.first, tail.first)),
-                Words::And(_) => None,
-            },
-            Words::Empty => None,
-        },
-        _ => None,
-    }
-}
-
-fn is_constant(word: Word, place: Option<u32>) -> bool {
-    match word {
-        Word::Constant(at) => Some(at) == place,
-        _ => false,
-    }
-}
-
-fn is_number(word: Word, number: i64) -> bool {
-    match word {
-        Word::Number(z) => z == wrapped(number as i128),
-        _ => false,
-    }
-}
-
-fn is_character(word: Word, byte: u8) -> bool {
-    match word {
-        Word::Character(c) => c == byte,
-        _ => false,
-    }
-}
-
-fn is_text(word: Word, bytes: &[u8]) -> bool {
-    match word {
-        Word::Bytes(text) => text_order(text, bytes) == Ordering::Equal,
-        _ => false,
-    }
-}
-
-/// The one value of a list of one.
-fn only<'a>(words: Words<'a>) -> Option<Word<'a>> {
-    match words {
-        Words::And(pair) => match pair.rest {
-            Words::Empty => Some(pair.first),
-            Words::And(_) => None,
-        },
-        Words::Empty => None,
-    }
-}
-
-fn fits_if<'a>(test: bool, env: Env<'a>) -> Option<Env<'a>> {
+/// These names where the test holds.
+fn fits_if<'a>(test: bool, env: Env<'a>) -> Option<Env<'a>>
+    ensures { option_map names result ≡ onto (names env.entry) (p.fits_if test) }
+{
     if test { Some(env) } else { None }
+}
+
+/// The names that were found with one more.
+fn with_name<'a>(
+    tools: Tools<'a>,
+    node: u32,
+    word: Word<'a>,
+    found: Option<Env<'a>>,
+) -> Result<Option<Env<'a>>, NoMemory>
+    ensures { IfOk result (λ env_found. option_map names env_found ≡ p.binding node (value word.entry) (option_map names found.entry)) }
+{
+    match found {
+        Some(env) => Ok(Some(bind(tools.bump, node, word, env)?)),
+        None => Ok(None),
+    }
 }
 
 /// The names with those of a pattern, where the value fits it.
@@ -84,89 +42,158 @@ pub fn fits<'a>(
     word: Word<'a>,
     env: Env<'a>,
 ) -> Result<Option<Env<'a>>, NoMemory>
-    ensures { Finds result (p.fits (targets tools.scoped.now) pat.now (value word.entry)) (names env.entry) }
+    ensures { Finds result (p.fits (targets tools.entry.scoped.now) pat.now (value word.entry)) (names env.entry) }
 {
-    match &pat.kind {
+    fits_kind(tools, &pat.kind, pat.id, word, env)
+}
+
+#[cycle(fitting)]
+fn fits_kind<'a>(
+    tools: Tools<'a>,
+    kind: &PatKind,
+    node: u32,
+    word: Word<'a>,
+    env: Env<'a>,
+) -> Result<Option<Env<'a>>, NoMemory>
+    ensures { Finds result ((kind_meaning (targets tools.entry.scoped.now) kind.now node).whole (value word.entry)) (names env.entry) }
+{
+    match kind {
         PatKind::Any => Ok(Some(env)),
-        PatKind::Name(_, _) => Ok(Some(bind(tools.bump, pat.id, word, env)?)),
+        PatKind::Name(_, _) => with_name(tools, node, word, Some(env)),
         PatKind::Int(z) => Ok(fits_if(is_number(word, *z), env)),
         PatKind::Char(byte) => Ok(fits_if(is_character(word, *byte), env)),
         PatKind::Text(lit) => Ok(fits_if(is_text(word, lit.bytes.as_slice()), env)),
         PatKind::Con { name, arg } => {
-            let place = constructor_place(tools.scoped, *name, pat.id);
+            let place = constructor_place(tools.scoped, *name, node);
             match arg {
                 None => Ok(fits_if(is_constant(word, place), env)),
-                Some(inner) => match block(word, place) {
-                    Some(parts) => {
-                        if takes_fields(inner.get()) {
-                            return fit_fields(tools, inner.get(), parts, env);
-                        }
-                        match only(parts) {
-                            Some(part) => fits(tools, inner.get(), part, env),
-                            None => Ok(None),
-                        }
-                    }
-                    None => Ok(None),
-                },
+                Some(inner) => fit_argument(tools, inner.get(), place, word, env),
             }
         }
         PatKind::Cons(head, tail) => match cell(word) {
-            Some((first, rest)) => match fits(tools, head.get(), first, env)? {
-                Some(env) => fits(tools, tail.get(), rest, env),
-                None => Ok(None),
-            },
+            Some((first, rest)) => {
+                let found = fits(tools, head.get(), first, env)?;
+                fit_next(tools, tail.get(), rest, found)
+            }
             None => Ok(None),
         },
-        PatKind::Tuple(parts) => match block(word, Some(0)) {
-            Some(words) => fit_all(tools, parts.as_slice(), words, env),
-            None => Ok(None),
-        },
+        PatKind::Tuple(parts) => fit_tuple(tools, parts.as_slice(), word, env),
         PatKind::List(parts) => fit_list(tools, parts.as_slice(), word, env),
-        PatKind::Fields { list, rest: _ } => match block(word, Some(0)) {
-            Some(words) => fit_record(tools, list.as_slice(), words, env),
-            None => Ok(None),
-        },
-        PatKind::Or(one, other) => match fits(tools, one.get(), word, env)? {
-            Some(env) => Ok(Some(env)),
-            None => fits(tools, other.get(), word, env),
-        },
-        PatKind::Named(inner, _) => match fits(tools, inner.get(), word, env)? {
-            Some(env) => Ok(Some(bind(tools.bump, pat.id, word, env)?)),
-            None => Ok(None),
-        },
+        PatKind::Fields { list, rest: _ } => fit_record(tools, list.as_slice(), word, env),
+        PatKind::Or(one, other) => {
+            let found = fits(tools, one.get(), word, env)?;
+            fit_other(tools, other.get(), found, word, env)
+        }
+        PatKind::Named(inner, _) => {
+            let found = fits(tools, inner.get(), word, env)?;
+            with_name(tools, node, word, found)
+        }
         PatKind::Typed(inner, _) | PatKind::Paren(inner) => fits(tools, inner.get(), word, env),
     }
 }
 
-/// Whether a pattern that is the argument of a constructor stands for all its fields: a tuple takes
-/// them one by one, `_` takes any. Each other pattern takes the one field.
-fn takes_fields(pat: &Pat) -> bool {
-    match &pat.kind {
-        PatKind::Any | PatKind::Tuple(_) => true,
-        PatKind::Paren(inner) => takes_fields(inner.get()),
-        _ => false,
+/// A pattern against a value, where those before it fitted theirs.
+#[cycle(fitting)]
+fn fit_next<'a>(
+    tools: Tools<'a>,
+    pat: &Pat,
+    word: Word<'a>,
+    found: Option<Env<'a>>,
+) -> Result<Option<Env<'a>>, NoMemory>
+    ensures { IfOk result (λ env_found. option_map names env_found ≡ onto_found (option_map names found.entry) (p.fits (targets tools.entry.scoped.now) pat.now (value word.entry))) }
+{
+    match found {
+        Some(env) => fits(tools, pat, word, env),
+        None => Ok(None),
     }
 }
 
-/// A pattern that takes all fields of a constructor against them.
+/// What was found, or else what this pattern finds.
+#[cycle(fitting)]
+fn fit_other<'a>(
+    tools: Tools<'a>,
+    pat: &Pat,
+    found: Option<Env<'a>>,
+    word: Word<'a>,
+    env: Env<'a>,
+) -> Result<Option<Env<'a>>, NoMemory>
+    ensures { IfOk result (λ env_found. option_map names env_found ≡ p.or_else (option_map names found.entry) (onto (names env.entry) (p.fits (targets tools.entry.scoped.now) pat.now (value word.entry)))) }
+{
+    match found {
+        Some(found) => Ok(Some(found)),
+        None => fits(tools, pat, word, env),
+    }
+}
+
+/// The argument of a constructor against the fields of a block of its place.
+#[cycle(fitting)]
+fn fit_argument<'a>(
+    tools: Tools<'a>,
+    pat: &Pat,
+    place: Option<u32>,
+    word: Word<'a>,
+    env: Env<'a>,
+) -> Result<Option<Env<'a>>, NoMemory>
+    ensures { Finds result (p.block_fits place (pattern_meaning (targets tools.entry.scoped.now) pat.now).fields (value word.entry)) (names env.entry) }
+{
+    match block(word, place) {
+        Some(words) => fit_fields(tools, pat, words, env),
+        None => Ok(None),
+    }
+}
+
+/// The argument of a constructor against its fields: a tuple takes them one by one, `_` takes any,
+/// and each other pattern takes the one field.
 #[cycle(fitting)]
 fn fit_fields<'a>(
     tools: Tools<'a>,
     pat: &Pat,
     words: Words<'a>,
     env: Env<'a>,
-) -> Result<Option<Env<'a>>, NoMemory> {
+) -> Result<Option<Env<'a>>, NoMemory>
+    ensures { Finds result ((pattern_meaning (targets tools.entry.scoped.now) pat.now).fields (values_list words.entry)) (names env.entry) }
+{
     match &pat.kind {
         PatKind::Any => Ok(Some(env)),
+        PatKind::Tuple(parts) => fit_parts(tools, parts.as_slice(), words, env),
         PatKind::Paren(inner) => fit_fields(tools, inner.get(), words, env),
-        PatKind::Tuple(parts) => match only(words) {
-            Some(word) => match block(word, Some(0)) {
-                Some(words) => fit_all(tools, parts.as_slice(), words, env),
-                None => Ok(None),
-            },
-            None => fit_all(tools, parts.as_slice(), words, env),
+        _ => match only(words) {
+            Some(word) => fits_kind(tools, &pat.kind, pat.id, word, env),
+            None => Ok(None),
         },
-        _ => Err(NoMemory),
+    }
+}
+
+/// The parts of a tuple that is the argument of a constructor against its fields. A tuple of one
+/// value for the one field is a field like any other.
+#[cycle(fitting)]
+fn fit_parts<'a>(
+    tools: Tools<'a>,
+    pats: &[Pat],
+    words: Words<'a>,
+    env: Env<'a>,
+) -> Result<Option<Env<'a>>, NoMemory>
+    ensures { Finds result (p.tuple_fields (targets tools.entry.scoped.now) (map (p.fits (targets tools.entry.scoped.now)) pats.now) (values_list words.entry)) (names env.entry) }
+{
+    match only(words) {
+        Some(word) => fit_tuple(tools, pats, word, env),
+        None => fit_all(tools, pats, words, env),
+    }
+}
+
+/// The parts of a tuple against those of a value.
+#[cycle(fitting)]
+fn fit_tuple<'a>(
+    tools: Tools<'a>,
+    pats: &[Pat],
+    word: Word<'a>,
+    env: Env<'a>,
+) -> Result<Option<Env<'a>>, NoMemory>
+    ensures { Finds result (p.block_fits (Some 0) (p.all_fit (map (p.fits (targets tools.entry.scoped.now)) pats.now)) (value word.entry)) (names env.entry) }
+{
+    match block(word, Some(0)) {
+        Some(words) => fit_all(tools, pats, words, env),
+        None => Ok(None),
     }
 }
 
@@ -177,22 +204,31 @@ fn fit_all<'a>(
     pats: &[Pat],
     words: Words<'a>,
     env: Env<'a>,
-) -> Result<Option<Env<'a>>, NoMemory> {
+) -> Result<Option<Env<'a>>, NoMemory>
+    ensures { Finds result (p.all_fit (map (p.fits (targets tools.entry.scoped.now)) pats.now) (values_list words.entry)) (names env.entry) }
+{
     let mut rest = words;
-    let mut env = env;
+    let mut found = env;
     for pat in pats {
         let Words::And(pair) = rest else {
             return Ok(None);
         };
-        match fits(tools, pat, pair.first, env)? {
-            Some(more) => env = more,
+        match fits(tools, pat, pair.first, found)? {
+            Some(more) => found = more,
             None => return Ok(None),
         }
         rest = pair.rest;
     }
+    Ok(at_end(rest, found))
+}
+
+/// The names, where no value is left.
+fn at_end<'a>(rest: Words<'a>, env: Env<'a>) -> Option<Env<'a>>
+    ensures { option_map names result ≡ onto (names env.entry) (p.all_fit [] (values_list rest.entry)) }
+{
     match rest {
-        Words::Empty => Ok(Some(env)),
-        Words::And(_) => Ok(None),
+        Words::Empty => Some(env),
+        Words::And(_) => None,
     }
 }
 
@@ -203,44 +239,83 @@ fn fit_list<'a>(
     pats: &[Pat],
     word: Word<'a>,
     env: Env<'a>,
-) -> Result<Option<Env<'a>>, NoMemory> {
+) -> Result<Option<Env<'a>>, NoMemory>
+    ensures { Finds result (p.list_fits (map (p.fits (targets tools.entry.scoped.now)) pats.now) (value word.entry)) (names env.entry) }
+{
     let mut rest = word;
-    let mut env = env;
+    let mut found = env;
     for pat in pats {
         let Some((head, tail)) = cell(rest) else {
             return Ok(None);
         };
-        match fits(tools, pat, head, env)? {
-            Some(more) => env = more,
+        match fits(tools, pat, head, found)? {
+            Some(more) => found = more,
             None => return Ok(None),
         }
         rest = tail;
     }
-    Ok(fits_if(is_constant(rest, Some(0)), env))
+    Ok(fits_if(is_constant(rest, Some(0)), found))
 }
 
-/// The fields of a record pattern, each against the part of the record that it names.
+/// A record pattern against a record.
 #[cycle(fitting)]
 fn fit_record<'a>(
     tools: Tools<'a>,
     list: &[FieldPat],
+    word: Word<'a>,
+    env: Env<'a>,
+) -> Result<Option<Env<'a>>, NoMemory>
+    ensures { Finds result (p.block_fits (Some 0) (p.record_fits (targets tools.entry.scoped.now) (map (field_meaning (targets tools.entry.scoped.now)) list.now)) (value word.entry)) (names env.entry) }
+{
+    match block(word, Some(0)) {
+        Some(words) => fit_named(tools, list, words, env),
+        None => Ok(None),
+    }
+}
+
+/// The fields of a record pattern, each against the part of the record that it names.
+#[cycle(fitting)]
+fn fit_named<'a>(
+    tools: Tools<'a>,
+    list: &[FieldPat],
     words: Words<'a>,
     env: Env<'a>,
-) -> Result<Option<Env<'a>>, NoMemory> {
-    let mut env = env;
+) -> Result<Option<Env<'a>>, NoMemory>
+    ensures { Finds result (p.record_fits (targets tools.entry.scoped.now) (map (field_meaning (targets tools.entry.scoped.now)) list.now) (values_list words.entry)) (names env.entry) }
+{
+    let mut found = env;
     for field in list {
-        let Some(place) = field_place(tools.scoped, field.id) else {
-            return Ok(None);
-        };
-        let Some(word) = word_at(words, place) else {
-            return Ok(None);
-        };
-        match fits(tools, &field.pat, word, env)? {
-            Some(more) => env = more,
+        match fit_field(tools, field, words, found)? {
+            Some(more) => found = more,
             None => return Ok(None),
         }
     }
-    Ok(Some(env))
+    Ok(Some(found))
+}
+
+#[cycle(fitting)]
+fn fit_field<'a>(
+    tools: Tools<'a>,
+    field: &FieldPat,
+    words: Words<'a>,
+    env: Env<'a>,
+) -> Result<Option<Env<'a>>, NoMemory>
+    ensures { Finds result (field_fits (targets tools.entry.scoped.now) field.now (values_list words.entry)) (names env.entry) }
+{
+    match part_at(words, field_place(tools.scoped, field.id)) {
+        Some(word) => fits(tools, &field.pat, word, env),
+        None => Ok(None),
+    }
+}
+
+/// The part of a record at a place.
+fn part_at<'a>(words: Words<'a>, place: Option<u32>) -> Option<Word<'a>>
+    ensures { option_map value result ≡ p.found (values_list words.entry) place }
+{
+    match place {
+        Some(place) => word_at(words, place),
+        None => None,
+    }
 }
 
 /// Parameters against arguments, as many as there are.
@@ -250,24 +325,21 @@ pub fn fit_params<'a>(
     words: Words<'a>,
     env: Env<'a>,
 ) -> Result<Option<Env<'a>>, NoMemory>
-    ensures { Finds result (p.all_fit (param_fits (targets tools.scoped.now) params.now) (values_list words.entry)) (names env.entry) }
+    ensures { Finds result (p.all_fit (param_fits (targets tools.entry.scoped.now) params.now) (values_list words.entry)) (names env.entry) }
 {
     let mut rest = words;
-    let mut env = env;
+    let mut found = env;
     for param in params {
         let Words::And(pair) = rest else {
             return Ok(None);
         };
-        match fits(tools, &param.pat, pair.first, env)? {
-            Some(more) => env = more,
+        match fits(tools, &param.pat, pair.first, found)? {
+            Some(more) => found = more,
             None => return Ok(None),
         }
         rest = pair.rest;
     }
-    match rest {
-        Words::Empty => Ok(Some(env)),
-        Words::And(_) => Ok(None),
-    }
+    Ok(at_end(rest, found))
 }
 
 /// The patterns of bindings against their values, as many as there are.
@@ -277,22 +349,19 @@ pub fn fit_binds<'a>(
     words: Words<'a>,
     env: Env<'a>,
 ) -> Result<Option<Env<'a>>, NoMemory>
-    ensures { Finds result (p.all_fit (bind_fits (targets tools.scoped.now) binds.now) (values_list words.entry)) (names env.entry) }
+    ensures { Finds result (p.all_fit (bind_fits (targets tools.entry.scoped.now) binds.now) (values_list words.entry)) (names env.entry) }
 {
     let mut rest = words;
-    let mut env = env;
+    let mut found = env;
     for one in binds {
         let Words::And(pair) = rest else {
             return Ok(None);
         };
-        match fits(tools, &one.pat, pair.first, env)? {
-            Some(more) => env = more,
+        match fits(tools, &one.pat, pair.first, found)? {
+            Some(more) => found = more,
             None => return Ok(None),
         }
         rest = pair.rest;
     }
-    match rest {
-        Words::Empty => Ok(Some(env)),
-        Words::And(_) => Ok(None),
-    }
+    Ok(at_end(rest, found))
 }
