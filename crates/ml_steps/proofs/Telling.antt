@@ -20,6 +20,7 @@ use Rattle.ml_matching.specs.Fitting.{bind_fits, onto}
 use Rattle.ml_values.specs.declared.value.Env as ml_env
 use Rattle.ml_meaning.specs.Values as v
 use Rattle.ml_meaning.specs.Values.{Value, packed}
+use Rattle.ml_values.specs.declared.told.Mode.{Mode}
 use Rattle.ml_values.specs.declared.told.Mode.TheVariants as mode
 use Rattle.ml_values.specs.declared.value.Word.TheVariants as W
 use Rattle.ml_values.specs.declared.value.Words.{Words}
@@ -28,7 +29,7 @@ use Rattle.ml_values.specs.Telling.{mode_of}
 use Rattle.ml_values.proofs.Layers.{block_is}
 use Rattle.ml_steps.specs.declared.frame.Here.{Here}
 use Rattle.ml_steps.specs.declared.frame.Next.{Next}
-use Rattle.ml_steps.specs.Left.{Nexts, arranged_parts, bound_run, built, calls_of, closure_run, field_part, next_run, operated, over_applied_run, overwritten_run, record_run}
+use Rattle.ml_steps.specs.Left.{Nexts, arranged_parts, bound_run, built, calls_of, closure_run, field_part, finished, next_run, operated, over_applied_run, overwritten_run, record_run}
 use Rattle.ml_steps.proofs.RunsParts.{after_none, packed_listed, tells, goes_on}
 
 -- the run, with what was told before it, is what the result means, with what is told now
@@ -121,3 +122,7 @@ module _ (s : Setting Event) where
       ap (λ x. closure Event s node (calls Event s x) (mode_of inner.mode) (names inner.env)) f
       ∙ (ap (λ x. closure Event s node (calls_of s here) (mode_of x) (names inner.env)) m
       ∙ ap (λ x. closure Event s node (calls_of s here) Inner (names x)) e)
+
+  -- a value that is there at once
+  pub project_told : {F : Type 0} (before now : List Event) (r : Result Next F) (m : Mode) (run : Run Event Value) (v : Value) → run ≡ Done [] v → Nexts s before now r (finish Event s (mode_of m) v) → Nexts s before now r (finished s m run)
+  project_told before now r m run v is h = told_as (next_run s) before now r _ _ (ap (λ x. x >>= finish Event s (mode_of m)) is ∙ after_none (finish Event s (mode_of m) v)) h
