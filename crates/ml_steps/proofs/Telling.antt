@@ -11,7 +11,7 @@ use Rattle.ml_tree.specs.declared.reference.Op.{Op}
 use Rattle.std.specs.Prelude.{IfOk}
 use Rattle.ml_meaning.specs.declared.event.Event.{Event}
 use Rattle.ml_meaning.specs.declared.event.Event.TheVariants as event
-use Rattle.ml_meaning.specs.Runs.{Run, Done, Stop, Stuck, after, ◌>>=◌}
+use Rattle.ml_meaning.specs.Runs.{Run, Done, after, ◌>>=◌}
 use Rattle.ml_meaning.specs.Evaluation.{closure, matched, operation_result, paired, placed}
 use Rattle.ml_meaning.specs.Operations.{operate, operation_arity, operator}
 use Rattle.ml_meaning.specs.Patterns.{Env, all_fit}
