@@ -36,12 +36,7 @@ impl From<NoMemory> for NoProgram {
 }
 
 /// The tokens of a part of a text.
-fn part_tokens(
-    alloc: Global,
-    text: &[u8],
-    start: u32,
-    end: u32,
-) -> Result<Items<Token>, NoProgram>
+fn part_tokens(alloc: Global, text: &[u8], start: u32, end: u32) -> Result<Items<Token>, NoProgram>
     requires order { start ≤ end }
     requires within { end ≤ length text.now }
     ensures sound { IfOk result (All (IsSound text.now)) }
