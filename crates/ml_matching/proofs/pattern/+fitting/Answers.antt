@@ -1,4 +1,4 @@
-use Rattle.std.proofs.Common.{Some, sym, ap, ap₂, ◌∙◌}
+use Rattle.std.proofs.Common.{sym, ap, ap₂, ◌∙◌}
 use Rattle.ml_tree.specs.declared.pattern.PatKind.TheVariants as P
 use Rattle.ml_meaning.specs.Patterns as p
 use Rattle.ml_values.specs.Shown.{value, values_list, names}
