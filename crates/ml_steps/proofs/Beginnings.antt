@@ -1,5 +1,5 @@
 -- How a step begins: all parts from the last on, a constructor, a region that is closed or opened first.
-use Rattle.std.proofs.Common.{◌≡◌, ℕ, List, [], ◌∷◌, ◌++◌, length, take, Option, Some, Result, Ok, refl, sym, ap, ◌∙◌, subst, append-nil}
+use Rattle.std.proofs.Common.{◌≡◌, ℕ, List, [], ◌∷◌, ◌++◌, length, take, Option, Some, Result, Ok, Err, IfOk, refl, sym, ap, ◌∙◌, subst, append-nil}
 use Rattle.std.proofs.Math.Seq.{take-length}
 use Rattle.ml_tree.specs.declared.pattern.ConName.{ConName}
 use Rattle.ml_tree.specs.declared.expr.Expr.{Expr}
@@ -20,11 +20,10 @@ use Rattle.ml_values.proofs.Layers.{empty_is}
 use Rattle.ml_steps.specs.declared.frame.Finish.{Finish}
 use Rattle.ml_steps.specs.declared.frame.Finish.TheVariants as last
 use Rattle.ml_steps.specs.declared.frame.Here.{Here}
-use Rattle.ml_steps.specs.declared.frame.Next.{Next}
 use Rattle.ml_steps.specs.declared.frame.Parts.{Parts}
 use Rattle.ml_steps.specs.declared.frame.Step.{Step}
 use Rattle.ml_steps.specs.declared.frame.Then.TheVariants as then
-use Rattle.ml_steps.specs.Left.{Nexts, Steps, all_parts_run, at_place, borrow_run, calls_of, evaluated, finish_run, followed, inner_run, next_run, parts_run, parts_runs, step_run, then_run}
+use Rattle.ml_steps.specs.Left.{Steps, all_parts_run, at_place, borrow_run, calls_of, evaluated, finish_run, followed, inner_run, parts_run, parts_runs, step_run, then_run}
 use Rattle.ml_steps.proofs.RunsVisits.{after_after, after_none, bind_same}
 
 pub empty_list_is : values_list Empty ≡ []
@@ -35,9 +34,10 @@ module _ (s : Setting Event) (before now : List Event) where
   pub steps_as : {F : Type 0} (r : Result Step F) (run meant : Run Event Value) → meant ≡ run → Steps s before now r run → Steps s before now r meant
   steps_as r run meant is steps = subst (λ run. Steps s before now r run) (sym is) steps
 
-  -- what is done next, with nothing behind it
-  pub goes_on : (next : Next) (step : Step) (run meant : Run Event Value) → meant ≡ run → after before run ≡ after now (next_run s next) → step_run s step ≡ next_run s next → after before meant ≡ after now (step_run s step)
-  goes_on next step run meant is nexts same = ap (after before) is ∙ (nexts ∙ ap (after now) (sym same))
+  -- a step that tells nothing
+  pub steps_quietly : {F : Type 0} (r : Result Step F) (run : Run Event Value) → IfOk r (λ step. step_run s step ≡ run) → Steps s before before r run
+  steps_quietly (Ok step) run is = ap (after before) (sym is)
+  steps_quietly (Err none) run is = is
 
 module _ (s : Setting Event) (here : Here) where
   pub all_parts_are : (ps : Parts) (last : Finish) (left : ℕ) → left ≡ length (parts_runs s ps) → all_parts_run s ps last here ≡ parts_run s ps left (values_list Empty) last here
