@@ -42,9 +42,12 @@ module _ (s : Setting Event) (node : ℕ) (here : Here) where
   over_cons x a b is =
       ap over (form_at s x (e.Cons a b) _ is (E.rolls-Cons a b)) ∙ builds_is 1 (evaluate Event s a ∷ (evaluate Event s b ∷ []))
 
-  pub over_con : (x a : Expr) (name : ConName) (place count : ℕ) (ps : Parts) → (out-Expr x).kind ≡ E.Con name (Some a) → constructor_place s.names name (out-Expr x).id ≡ Some place → count ≡ m.field_count Event s (s.names (out-Expr x).id) → parts_runs s ps ≡ m.fields_of Event s count (expr_meaning Event s a) → over (expr_meaning Event s x).form ≡ all_parts_run s ps (last.Overwrite node place) here
-  over_con x a name place count ps is at counted parts =
-      ap over (form_at s x (e.Con name (Some a)) _ is (E.rolls-Con name (Some a)))
-      ∙ (ap (λ p. over (Builds p (m.fields_of Event s (m.field_count Event s (s.names (out-Expr x).id)) (expr_meaning Event s a)))) at
-      ∙ (builds_is place (m.fields_of Event s (m.field_count Event s (s.names (out-Expr x).id)) (expr_meaning Event s a))
-      ∙ ap (λ ms. m.values Event s ms (calls_of s here) (names here.env) >>= overwritten_run s node place here) (sym (parts ∙ ap (λ n. m.fields_of Event s n (expr_meaning Event s a)) counted))))
+  pub over_con : (x a : Expr) (name : ConName) → (out-Expr x).kind ≡ E.Con name (Some a) → over (expr_meaning Event s x).form ≡ over (m.constructed Event s (out-Expr x).id name (Some (expr_meaning Event s a))).form
+  over_con x a name is = ap over (form_at s x (e.Con name (Some a)) _ is (E.rolls-Con name (Some a)))
+
+  pub over_constructed : (of : ℕ) (name : ConName) (a : Expr) (place count : ℕ) (ps : Parts) → constructor_place s.names name of ≡ Some place → count ≡ m.field_count Event s (s.names of) → parts_runs s ps ≡ m.fields_of Event s count (expr_meaning Event s a) → over (m.constructed Event s of name (Some (expr_meaning Event s a))).form ≡ all_parts_run s ps (last.Overwrite node place) here
+  over_constructed of name a place count ps at counted parts =
+      let fields = m.fields_of Event s (m.field_count Event s (s.names of)) (expr_meaning Event s a) in
+      ap (λ p. over (Builds p fields)) at
+      ∙ (builds_is place fields
+      ∙ ap (λ ms. m.values Event s ms (calls_of s here) (names here.env) >>= overwritten_run s node place here) (sym (parts ∙ ap (λ n. m.fields_of Event s n (expr_meaning Event s a)) counted)))

@@ -22,8 +22,6 @@ returns-in-Cons t c =
 pub returns-in-Some : goal.returns-in-Some
 returns-in-Some t c =
     let s = setting_of c.args.world in
-    steps_as s c.args.told.now.items c.visit_parts-in-Some.new.told.items c.visit_parts-in-Some.result _ _
-    (over_con s c.args.node c.args.here c.args.built.now c.get-in-Some.result.now c.in-Con-default-Some.name c.in-Some.place c.field_count.result c.fields_of.result
-    (c.in-Con-default-Some.is ∙ ap (E.Con c.in-Con-default-Some.name) (c.in-Con-default-Some.arg-is ∙ ap (λ x. Some x) (sym (c.get-in-Some.ensures ∙ c.in-Con-default-Some.arg-is'))))
-    (sym c.in-Some.ensures) c.field_count.ensures (c.fields_of.ensures s))
-    c.visit_parts-in-Some.ensures
+    steps_as s c.args.told.now.items c.overwrite_con.new.told.items c.overwrite_con.result _ _
+    (over_con s c.args.node c.args.here c.args.built.now c.get-in-Some.result.now c.in-Con.name (c.in-Con.is ∙ ap (E.Con c.in-Con.name) (c.in-Some.is ∙ ap (λ x. Some x) (sym c.get-in-Some.ensures))))
+    c.overwrite_con.ensures
