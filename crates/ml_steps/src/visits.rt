@@ -1,5 +1,5 @@
 //! How the evaluation of an expression begins.
-ghost use Rattle.std.specs.Prelude.{◌≡◌, List, IfOk, map};
+ghost use Rattle.std.specs.Prelude.{◌≡◌, List, Some, IfOk, map};
 ghost use Rattle.std.specs.Option.{option_map};
 ghost use Rattle.ml_meaning.specs.declared.event.Event.{Event};
 ghost use Rattle.ml_meaning.specs.Evaluation as m;
@@ -270,21 +270,36 @@ fn visit_overwrite<'t, 'a>(
             Finish::Overwrite(node, 1),
             here,
         ),
-        ExprKind::Con {
-            name,
-            arg: Some(arg),
-        } => match constructor_place(world.tools.scoped, *name, built.id) {
-            Some(place) => visit_parts(
-                world,
-                told,
-                fields_of(world.field_count(built.id), arg.get()),
-                Finish::Overwrite(node, place),
-                here,
-            ),
+        ExprKind::Con { name, arg } => match arg {
+            Some(arg) => overwrite_con(world, told, node, *name, built.id, arg.get(), here),
             None => Err(NoMemory),
         },
         _ => Err(NoMemory),
     }
+}
+
+/// An overwrite by a constructor with fields, which the node `of` names.
+fn overwrite_con<'t, 'a>(
+    world: World<'t, 'a>,
+    told: &mut Vec<Event>,
+    node: u32,
+    name: ConName,
+    of: u32,
+    arg: &'a Expr,
+    here: Here<'a>,
+) -> Result<Step<'a>, NoMemory>
+    ensures { Steps (setting_of world.entry) told.old.items told.new.items result (at_place (setting_of world.entry) (m.overwritten Event (setting_of world.entry) node (m.constructed Event (setting_of world.entry) of name (Some (expr_meaning Event (setting_of world.entry) arg.entry.now))).form) here.entry) }
+{
+    let Some(place) = constructor_place(world.tools.scoped, name, of) else {
+        return Err(NoMemory);
+    };
+    visit_parts(
+        world,
+        told,
+        fields_of(world.field_count(of), arg),
+        Finish::Overwrite(node, place),
+        here,
+    )
 }
 
 /// One step into an expression.
