@@ -14,7 +14,7 @@ use Rattle.ml_meaning.specs.Functions.{FunctionCode}
 use Rattle.ml_meaning.specs.Names.{field_place}
 use Rattle.ml_meaning.specs.Patterns as p
 use Rattle.ml_meaning.specs.Patterns.{fits, all_fit}
-use Rattle.ml_meaning.specs.Runs.{Run, Done, Stop, Ended, after, ◌>>=◌}
+use Rattle.ml_meaning.specs.Runs.{Run, Done, Stop, Ended, Stuck, after, ◌>>=◌}
 use Rattle.ml_meaning.specs.Tellings.{Setting, Meaning, Call, Inner, or_stuck, branch, named, made, finish}
 use Rattle.ml_meaning.specs.Operations.{operate, operation_arity, operator, negated}
 use Rattle.ml_meaning.specs.Evaluation as m
@@ -150,6 +150,10 @@ module _ (s : Setting Event) where
 
   abbrev pub operated : ℕ → Op → Here → List Value → Run Event Value
   operated node o here vs = operate Event s (Some node) o (take (operation_arity o) vs) >>= m.operation_result Event s (mode_of here.mode) (drop (operation_arity o) vs)
+
+  -- what an operation gave, where more arguments are left
+  abbrev pub over_applied_run : Run Event Value → Run Event Value
+  over_applied_run run = run >>= λ v. Stop [] Stuck
 
   abbrev pub overwritten_run : ℕ → ℕ → Here → List Value → Run Event Value
   overwritten_run node place here vs = after (s.told (event.Over node (length vs + 1))) (finish Event s (mode_of here.mode) (Block place (packed vs)))

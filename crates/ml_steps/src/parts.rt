@@ -1,9 +1,12 @@
 //! Parts that are evaluated right to left, and what is done where the values of all are there.
-ghost use Rattle.std.specs.Prelude.{◌≡◌, ◌+◌, IfOk, Some, length};
+ghost use Rattle.std.specs.Prelude.{◌≡◌, ◌+◌, IfOk, OnOk, Some, length};
 ghost use Rattle.ml_meaning.specs.declared.event.Event.{Event};
-ghost use Rattle.ml_values.specs.Shown.{values_list};
-ghost use Rattle.ml_values.specs.Givings.{Plainly};
-ghost use Rattle.ml_steps.specs.Left.{Nexts, Steps, arranged_parts, bound_run, built, finish_run, operated, overwritten_run, parts_run, record_run};
+ghost use Rattle.ml_meaning.specs.Evaluation as m;
+ghost use Rattle.ml_meaning.specs.Tellings.{Setting};
+ghost use Rattle.ml_values.specs.Shown.{value, values_list};
+ghost use Rattle.ml_values.specs.Givings.{Plainly, given_run};
+ghost use Rattle.ml_steps.specs.Left.{Nexts, Steps, arranged_parts, bound_run, built, finish_run, next_run, operated, over_applied_run, overwritten_run, parts_run, record_run};
+ghost use Rattle.ml_steps.specs.Slots.{filled, shown};
 ghost use Rattle.ml_steps.specs.Worlds.{setting_of};
 
 use crate::calls::split;
@@ -109,7 +112,9 @@ fn arranged<'t, 'a>(
 }
 
 /// The value of a place that has none yet; the first one stays.
-fn fill<'a>(slots: &mut Vec<Option<Word<'a>>>, place: u32, word: Word<'a>) -> Result<(), NoMemory> {
+fn fill<'a>(slots: &mut Vec<Option<Word<'a>>>, place: u32, word: Word<'a>) -> Result<(), NoMemory>
+    ensures { OnOk result (shown slots.new.items ≡ filled (shown slots.old.items) place (value word.entry)) }
+{
     match slots.get(place as usize) {
         Some(None) => {
             slots[place as usize] = Some(word);
@@ -124,13 +129,17 @@ fn fill<'a>(slots: &mut Vec<Option<Word<'a>>>, place: u32, word: Word<'a>) -> Re
 fn all_there<'t, 'a>(
     world: World<'t, 'a>,
     slots: &[Option<Word<'a>>],
-) -> Result<Words<'a>, NoMemory> {
+) -> Result<Words<'a>, NoMemory>
+    ensures { IfOk result (λ words. (s : Setting Event) → m.all_there Event s (shown slots.now) ≡ Some (values_list words)) }
+{
     let mut words = Words::Empty;
-    for slot in slots.iter().rev() {
-        match slot {
-            Some(word) => words = and(world.tools.bump, *word, words)?,
+    let mut left = slots.len();
+    while left > 0 {
+        match slots[left - 1] {
+            Some(word) => words = and(world.tools.bump, word, words)?,
             None => return Err(NoMemory),
         }
+        left -= 1;
     }
     Ok(words)
 }
@@ -156,7 +165,9 @@ fn operate_parts<'t, 'a>(
 
 /// What an operation gave is applied to more arguments. No operation gives a function, so it can
 /// only end the program.
-fn over_applied<'a>(given: Given<'a>) -> Result<Next<'a>, NoMemory> {
+fn over_applied<'a>(given: Given<'a>) -> Result<Next<'a>, NoMemory>
+    ensures { IfOk result (λ next. (s : Setting Event) → next_run s next ≡ over_applied_run s (given_run given.entry)) }
+{
     match given {
         Given::End(ending) => Ok(Next::Stop(ending)),
         Given::Value(_) => Err(NoMemory),
