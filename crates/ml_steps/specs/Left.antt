@@ -9,7 +9,7 @@ use Rattle.ml_tree.specs.declared.expr.BinOp.{BinOp}
 use Rattle.ml_tree.specs.declared.expr.BinOp.TheVariants as binary
 use Rattle.ml_meaning.specs.declared.event.Event.{Event}
 use Rattle.ml_meaning.specs.declared.event.Event.TheVariants as event
-use Rattle.ml_meaning.specs.Values.{Value, Constant, Block, Function, Code, Source, no_values, packed, cell, false_value, true_value, unit_value}
+use Rattle.ml_meaning.specs.Values.{Value, Values, Constant, Block, Function, Code, Source, no_values, packed, cell, false_value, true_value, unit_value}
 use Rattle.ml_meaning.specs.Functions.{FunctionCode}
 use Rattle.ml_meaning.specs.Names.{field_place}
 use Rattle.ml_meaning.specs.Patterns as p
@@ -94,9 +94,23 @@ module _ (s : Setting Event) where
   abbrev pub closure_run : ℕ → Here → Run Event Value
   closure_run node here = at_place (m.closure Event s node) here
 
+  -- a function with these captures is made
+  abbrev pub closing_run : ℕ → List ℕ → Here → Run Event Value
+  closing_run node captures here =
+      or_stuck (m.captured Event s captures (names here.env)) >>= λ vs.
+      after (m.function_made Event s node captures) (finish Event s (mode_of here.mode) (Function (Source node) (packed vs) no_values))
+
+  -- a partial application that holds these arguments
+  abbrev pub partial_run : ℕ → Here → Code → Values → Values → Run Event Value
+  partial_run node here code captured held = m.partial_made Event s node (mode_of here.mode) (Function code captured held)
+
   -- a function applied to arguments, the region being closed already
   abbrev pub applied_run : ℕ → Here → List Value → Value → Run Event Value
   applied_run node here args f = m.applied Event s node (calls_of here) (mode_of here.mode) args f
+
+  -- a call on as many arguments as the function takes, and what it gives applied to the rest
+  abbrev pub called_run : ℕ → Here → List Value → Code → List Value → List Value → Run Event Value
+  called_run node here rest code captured all = m.called Event s (calls_of here) (mode_of here.mode) rest (applied_run node here rest) code captured all
 
   -- a function applied to arguments, the region being closed before the call in tail position
   abbrev pub apply_run : ℕ → Here → List Value → Value → Run Event Value
@@ -111,6 +125,10 @@ module _ (s : Setting Event) where
   taken_run arm here env rest =
       m.guarded Event s (arm_meaning Event s arm).guard (calls_of here) (names env)
         ((arm_meaning Event s arm).body (calls_of here) (mode_of here.mode) (names env)) rest
+
+  -- what a function's own name stands for
+  abbrev pub own_name_of : ℕ → Option ℕ → Values → p.Env
+  own_name_of node own captured = own_name Event s own (Function (Source node) captured no_values)
 
   -- the names that a function's own name and its captures stand for
   abbrev pub closed_env : ℕ → Option ℕ → List ℕ → List Value → p.Env

@@ -26,12 +26,10 @@ pub fn choose<'t, 'a>(
 ) -> Result<Step<'a>, NoMemory>
     ensures { Steps (setting_of world.entry) told.old.items told.new.items result (choose_run (setting_of world.entry) (drop from arms.entry.now) here.entry (value word.entry)) }
 {
-    let mut at = from;
-    while at < arms.len() {
+    for at in from..arms.len() {
         let arm = &arms[at];
-        at += 1;
         if let Some(env) = fits(world.tools, &arm.pat, word, here.env)? {
-            return Ok(taken(arms, at, arm, word, env, here));
+            return Ok(taken(arms, at + 1, arm, word, env, here));
         }
     }
     Ok(go_on(failed(told, Failure::NoMatch)?))

@@ -1,11 +1,12 @@
 //! How functions are applied and called.
-ghost use Rattle.std.specs.Prelude.{◌≡◌, ◌++◌, IfOk, OnOk, length, suc};
+ghost use Rattle.std.specs.Prelude.{◌≡◌, ◌++◌, IfOk, OnOk, length, map, suc};
 ghost use Rattle.ml_meaning.specs.declared.event.Event.{Event};
 ghost use Rattle.ml_meaning.specs.Evaluation as m;
 ghost use Rattle.ml_functions.specs.Table as table;
-ghost use Rattle.ml_values.specs.Shown.{code_of, names, value, values_list};
+ghost use Rattle.ml_values.specs.Givings.{Plainly};
+ghost use Rattle.ml_values.specs.Shown.{code_of, names, value, values, values_list};
 ghost use Rattle.ml_values.specs.Telling.{mode_of};
-ghost use Rattle.ml_steps.specs.Left.{Nexts, Steps, applied_run, apply_run, body_of_call, call_of, closed_env, entered};
+ghost use Rattle.ml_steps.specs.Left.{Nexts, Steps, applied_run, apply_run, body_of_call, call_of, called_run, closed_env, entered, partial_run};
 ghost use Rattle.ml_steps.specs.Worlds.{setting_of};
 
 use crate::closures::closed;
@@ -40,7 +41,9 @@ fn before<'t, 'a>(
     world: World<'t, 'a>,
     list: &[Word<'a>],
     rest: Words<'a>,
-) -> Result<Words<'a>, NoMemory> {
+) -> Result<Words<'a>, NoMemory>
+    ensures { IfOk result (λ words. values_list words ≡ map value list.now ++ values_list rest.entry) }
+{
     let mut all = rest;
     for word in list.iter().rev() {
         all = and(world.tools.bump, *word, all)?;
@@ -132,7 +135,9 @@ fn hold<'a>(
     captured: Words<'a>,
     held: Words<'a>,
     here: Here<'a>,
-) -> Result<Step<'a>, NoMemory> {
+) -> Result<Step<'a>, NoMemory>
+    ensures { Plainly (λ s. Steps s told.old.items told.new.items result (partial_run s node here.entry (code_of code) (values captured.entry) (values held.entry))) }
+{
     let Some(words) = count(held)?.checked_add(2) else {
         return Err(NoMemory);
     };
@@ -151,7 +156,9 @@ fn apply_all<'t, 'a>(
     all: Words<'a>,
     rest: Words<'a>,
     here: Here<'a>,
-) -> Result<Step<'a>, NoMemory> {
+) -> Result<Step<'a>, NoMemory>
+    ensures { Steps (setting_of world.entry) told.old.items told.new.items result (called_run (setting_of world.entry) node here.entry (values_list rest.entry) (code_of code) (values_list captured.entry) (values_list all.entry)) }
+{
     match rest {
         Words::Empty => Ok(go_on(call(world, told, here.mode, code, captured, all, here.fuel)?)),
         Words::And(_) => {

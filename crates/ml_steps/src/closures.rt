@@ -1,9 +1,10 @@
 //! How functions are made, and the names that their bodies begin with.
-ghost use Rattle.std.specs.Prelude.{◌≡◌, IfOk, Some};
+ghost use Rattle.std.specs.Prelude.{◌≡◌, ◌+◌, ◌++◌, IfOk, OnOk, Some};
 ghost use Rattle.ml_meaning.specs.Evaluation as m;
 ghost use Rattle.ml_meaning.specs.declared.event.Event.{Event};
-ghost use Rattle.ml_values.specs.Shown.{names, values_list};
-ghost use Rattle.ml_steps.specs.Left.{Nexts, closed_env, closure_run};
+ghost use Rattle.ml_values.specs.Givings.{Plainly};
+ghost use Rattle.ml_values.specs.Shown.{names, values, values_list};
+ghost use Rattle.ml_steps.specs.Left.{Nexts, closed_env, closing_run, closure_run, own_name_of};
 ghost use Rattle.ml_steps.specs.Worlds.{setting_of};
 
 use crate::finish::finish;
@@ -54,11 +55,11 @@ fn close_over<'t, 'a>(
     node: u32,
     captures: &[u32],
     here: Here<'a>,
-) -> Result<Next<'a>, NoMemory> {
+) -> Result<Next<'a>, NoMemory>
+    ensures { Nexts (setting_of world.entry) told.old.items told.new.items result (closing_run (setting_of world.entry) node captures.now here.entry) }
+{
     let words = captured(world, captures, here.env)?;
-    if captures.len() > 0 {
-        made(told, node, words_of(captures.len())?)?;
-    }
+    tell_made(told, node, captures)?;
     finish(
         told,
         here.mode,
@@ -66,8 +67,20 @@ fn close_over<'t, 'a>(
     )
 }
 
+/// Tells that a function with these captures is made, where it has any.
+fn tell_made(told: &mut Vec<Event>, node: u32, captures: &[u32]) -> Result<(), NoMemory>
+    ensures { Plainly (λ s. OnOk result (told.new.items ≡ told.old.items ++ m.function_made Event s node captures.now)) }
+{
+    if captures.len() == 0 {
+        return Ok(());
+    }
+    made(told, node, words_of(captures.len())?)
+}
+
 /// The words of a function with so many captures.
-fn words_of(captures: usize) -> Result<u64, NoMemory> {
+fn words_of(captures: usize) -> Result<u64, NoMemory>
+    ensures { IfOk result (λ words. words ≡ captures + 2) }
+{
     match (captures as u64).checked_add(2) {
         Some(words) => Ok(words),
         None => Err(NoMemory),
@@ -80,7 +93,9 @@ fn own_env<'t, 'a>(
     node: u32,
     own: Option<u32>,
     captured: Words<'a>,
-) -> Result<Env<'a>, NoMemory> {
+) -> Result<Env<'a>, NoMemory>
+    ensures { IfOk result (λ env. names env ≡ own_name_of (setting_of world.entry) node own (values captured.entry)) }
+{
     match own {
         Some(own) => {
             let word = Word::Function(Code::Source(node), captured, Words::Empty);
