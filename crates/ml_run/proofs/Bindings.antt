@@ -91,11 +91,16 @@ module _ (s : Setting Event) (fuel : ℕ) where
   run_is kind rec slice bs is same =
       ap (m.item_run Event s fuel) is ∙ ap (λ l. values_run s l fuel >>= fitted_run s l) (sym same)
 
-  pub names_answer : {F : Type 0} (a o n : List Event) (kind : ItemKind) (rec : Bool) (slice bs : List Bind) (several : Several) (words : Words) (r : Result Matched F) → kind ≡ item.Let rec bs → slice ≡ bs → Tells a o (values_run s slice fuel) (several_run several) → several ≡ S.Values words → IfOk r (λ names. Tells o n (fitted_run s slice (values_list words)) (matched_run names)) → IfOk r (λ names. Tells a n (m.item_run Event s fuel kind) (matched_run names))
-  names_answer a o n kind rec slice bs several words (Err e) is same h at g = tt
-  names_answer a o n kind rec slice bs several words (Ok names) is same h at g =
+  -- the bindings are read twice, for their values and for their patterns
+  fitted_again : (slice again bs : List Bind) (vs : List Value) → slice ≡ bs → again ≡ bs → fitted_run s slice vs ≡ fitted_run s again vs
+  fitted_again slice again bs vs e f = ap (λ l. fitted_run s l vs) (e ∙ sym f)
+
+  pub names_answer : {F : Type 0} (a o n : List Event) (kind : ItemKind) (rec : Bool) (slice again bs : List Bind) (several : Several) (words : Words) (r : Result Matched F) → kind ≡ item.Let rec bs → slice ≡ bs → again ≡ bs → Tells a o (values_run s slice fuel) (several_run several) → several ≡ S.Values words → IfOk r (λ names. Tells o n (fitted_run s again (values_list words)) (matched_run names)) → IfOk r (λ names. Tells a n (m.item_run Event s fuel kind) (matched_run names))
+  names_answer a o n kind rec slice again bs several words (Err e) is same twice h at g = tt
+  names_answer a o n kind rec slice again bs several words (Ok names) is same twice h at g =
       ap (after a) (run_is kind rec slice bs is same)
-      ∙ (tells_value a o (values_run s slice fuel) (values_list words) (fitted_run s slice) (h ∙ ap (λ x. after o (several_run x)) at) ∙ g)
+      ∙ (tells_value a o (values_run s slice fuel) (values_list words) (fitted_run s slice) (h ∙ ap (λ x. after o (several_run x)) at)
+      ∙ (ap (after o) (fitted_again slice again bs (values_list words) same twice) ∙ g))
 
   pub names_end : (a o : List Event) (kind : ItemKind) (rec : Bool) (slice bs : List Bind) (several : Several) (end : Ending) → kind ≡ item.Let rec bs → slice ≡ bs → Tells a o (values_run s slice fuel) (several_run several) → several ≡ S.End end → Tells a o (m.item_run Event s fuel kind) (Stop [] (Ended end))
   names_end a o kind rec slice bs several end is same h at =
@@ -107,11 +112,12 @@ module _ (s : Setting Event) (fuel : ℕ) where
       let P : Run Event p.Env → Type 0 = λ q. Began a o q in
       subst P (sym (run_is kind rec slice bs is same)) (began_bind a o (values_run s slice fuel) (fitted_run s slice) h)
 
-  pub names_on : (a o n : List Event) (kind : ItemKind) (rec : Bool) (slice bs : List Bind) (several : Several) (words : Words) → kind ≡ item.Let rec bs → slice ≡ bs → Tells a o (values_run s slice fuel) (several_run several) → several ≡ S.Values words → Began o n (fitted_run s slice (values_list words)) → Began a n (m.item_run Event s fuel kind)
-  names_on a o n kind rec slice bs several words is same h at g =
+  pub names_on : (a o n : List Event) (kind : ItemKind) (rec : Bool) (slice again bs : List Bind) (several : Several) (words : Words) → kind ≡ item.Let rec bs → slice ≡ bs → again ≡ bs → Tells a o (values_run s slice fuel) (several_run several) → several ≡ S.Values words → Began o n (fitted_run s again (values_list words)) → Began a n (m.item_run Event s fuel kind)
+  names_on a o n kind rec slice again bs several words is same twice h at g =
       let P : Run Event p.Env → Type 0 = λ q. Began a n q in
+      let Q : Run Event p.Env → Type 0 = λ q. Began o n q in
       subst P (sym (run_is kind rec slice bs is same))
-      (tells_on a o n (values_run s slice fuel >>= fitted_run s slice) (fitted_run s slice (values_list words)) (tells_value a o (values_run s slice fuel) (values_list words) (fitted_run s slice) (h ∙ ap (λ x. after o (several_run x)) at)) g)
+      (tells_on a o n (values_run s slice fuel >>= fitted_run s slice) (fitted_run s slice (values_list words)) (tells_value a o (values_run s slice fuel) (values_list words) (fitted_run s slice) (h ∙ ap (λ x. after o (several_run x)) at)) (subst Q (sym (fitted_again slice again bs (values_list words) same twice)) g))
 
 -- ---- an item
 

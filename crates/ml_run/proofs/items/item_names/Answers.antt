@@ -8,11 +8,11 @@ returns-in_err-words-in-Let-clause-out c =
 
 pub returns-in-Values-clause-ended : goal.returns-in-Values-clause-ended
 returns-in-Values-clause-ended c =
-    names_answer (setting_of c.args.world) c.args.fuel _ c.item_words.new.out.items _ c.args.kind.now c.in-Let.recursive c.as_slice.result.now c.in-Let.binds c.in_ok-words-in-Let.field-0 c.in-Values.words _ c.in-Let.is c.as_slice.ensures c.in_ok-words-in-Let.ensures.ended c.in-Values.is c.match_words.ensures.ended
+    names_answer (setting_of c.args.world) c.args.fuel _ c.item_words.new.out.items _ c.args.kind.now c.in-Let.recursive c.as_slice.result.now c.as_slice-in-Values.result.now c.in-Let.binds c.in_ok-words-in-Let.field-0 c.in-Values.words c.match_words.result c.in-Let.is c.as_slice.ensures c.as_slice-in-Values.ensures c.in_ok-words-in-Let.ensures.ended c.in-Values.is c.match_words.ensures.ended
 
 pub returns-in-Values-clause-out : goal.returns-in-Values-clause-out
 returns-in-Values-clause-out c =
-    names_on (setting_of c.args.world) c.args.fuel _ c.item_words.new.out.items _ c.args.kind.now c.in-Let.recursive c.as_slice.result.now c.in-Let.binds c.in_ok-words-in-Let.field-0 c.in-Values.words c.in-Let.is c.as_slice.ensures c.in_ok-words-in-Let.ensures.ended c.in-Values.is c.match_words.ensures.out
+    names_on (setting_of c.args.world) c.args.fuel _ c.item_words.new.out.items _ c.args.kind.now c.in-Let.recursive c.as_slice.result.now c.as_slice-in-Values.result.now c.in-Let.binds c.in_ok-words-in-Let.field-0 c.in-Values.words c.in-Let.is c.as_slice.ensures c.as_slice-in-Values.ensures c.in_ok-words-in-Let.ensures.ended c.in-Values.is c.match_words.ensures.out
 
 pub returns-in-End-clause-ended : goal.returns-in-End-clause-ended
 returns-in-End-clause-ended c =

@@ -6,4 +6,4 @@ use Rattle.ml_run.proofs.program.run_items.Given as goal
 
 abbrev pub invariant-loop-item : goal.invariant-loop-item
 invariant-loop-item l =
-    (s : Scoped) → IsProgram s l.tables → Went s l.fuel l.fn.out.items l.out.items l.tops.items (drop l.item-index s.program.items)
+    (s : Scoped) → IsProgram s l.tables → Went s l.fuel l.fn.out.items l.out.items l.tops.items (drop l.item-index l.item-items)
