@@ -1,8 +1,11 @@
 //! Evaluates one expression, with a stack of what is left to do.
-ghost use Rattle.std.specs.Prelude.{◌≡◌, IfOk, OnErr};
-ghost use Rattle.ml_steps.specs.Left.{next_run, Steps};
+ghost use Rattle.std.specs.Prelude.{◌≡◌, IfOk};
+ghost use Rattle.ml_meaning.specs.declared.event.Event.{Event};
+ghost use Rattle.ml_meaning.specs.Tellings.{Setting};
+ghost use Rattle.ml_steps.specs.declared.frame.Next.TheVariants.{Give};
+ghost use Rattle.ml_steps.specs.Left.{next_run};
 ghost use Rattle.ml_steps.specs.Worlds.{setting_of};
-ghost use Rattle.ml_run.specs.Stack.{Began, Tells, Turned, evaluated_run};
+ghost use Rattle.ml_run.specs.Stack.{Began, Pushed, Tells, Turned, evaluated_run};
 
 use ml_meaning::{Ending, Event};
 use ml_steps::{Frame, Next, Step, World, choose, closure, resume, visit};
@@ -17,7 +20,9 @@ pub enum Evaluated<'a> {
 }
 
 /// The frame of a step goes onto the stack.
-fn pushed<'a>(frames: &mut Vec<Frame<'a>>, step: Step<'a>) -> Result<Option<Next<'a>>, NoMemory> {
+fn pushed<'a>(frames: &mut Vec<Frame<'a>>, step: Step<'a>) -> Result<Option<Next<'a>>, NoMemory>
+    ensures { (s : Setting Event) → IfOk result (Pushed s step.entry frames.old.items frames.new.items) }
+{
     if let Some(frame) = step.frame {
         frames.push(frame)?;
     }
@@ -30,7 +35,9 @@ fn give<'t, 'a>(
     told: &mut Vec<Event>,
     frames: &mut Vec<Frame<'a>>,
     word: Word<'a>,
-) -> Result<Option<Next<'a>>, NoMemory> {
+) -> Result<Option<Next<'a>>, NoMemory>
+    ensures { IfOk result (Turned (setting_of world.entry) told.old.items told.new.items frames.old.items frames.new.items (Give word.entry)) }
+{
     match frames.pop() {
         Some(frame) => {
             let step = resume(world, told, frame, word)?;
@@ -47,7 +54,7 @@ fn turn<'t, 'a>(
     frames: &mut Vec<Frame<'a>>,
     next: Next<'a>,
 ) -> Result<Option<Next<'a>>, NoMemory>
-    ensures { IfOk result (λ more. Turned (setting_of world.entry) told.old.items told.new.items frames.old.items frames.new.items next.entry more) }
+    ensures { IfOk result (Turned (setting_of world.entry) told.old.items told.new.items frames.old.items frames.new.items next.entry) }
 {
     match next {
         Next::Visit(e, here) => {
@@ -65,7 +72,9 @@ fn turn<'t, 'a>(
 }
 
 /// What is at its end, by what would be done next.
-fn ended<'a>(next: Next<'a>) -> Result<Evaluated<'a>, NoMemory> {
+fn ended<'a>(next: Next<'a>) -> Result<Evaluated<'a>, NoMemory>
+    ensures { (s : Setting Event) → IfOk result (λ e. next_run s next.entry ≡ evaluated_run e) }
+{
     match next {
         Next::Give(word) => Ok(Evaluated::Value(word)),
         Next::Stop(ending) => Ok(Evaluated::End(ending)),
@@ -86,7 +95,7 @@ pub fn evaluate<'t, 'a>(
     let mut told = Vec::new(world.tools.alloc);
     let mut frames = Vec::new(world.tools.alloc);
     let mut next = first;
-    for _ in 0..u64::MAX {
+    'turns: for _ in 0..u64::MAX {
         match turn(world, &mut told, &mut frames, next)? {
             Some(more) => next = more,
             None => return ended(next),

@@ -1,12 +1,18 @@
 //! Evaluates an item: what its bindings bind, and the names that are bound.
-ghost use Rattle.std.specs.Prelude.{◌≡◌, ◌++◌, IfOk, OnOk};
+ghost use Rattle.std.specs.Prelude.{◌≡◌, ◌∷◌, [], ◌++◌, IfOk, OnErr, OnOk};
 ghost use Rattle.ml_meaning.specs.declared.event.Event.{Event};
+ghost use Rattle.ml_meaning.specs.declared.event.Event.TheVariants.{Close, Enter, Leave, Open};
+ghost use Rattle.ml_meaning.specs.declared.event.Ending.TheVariants.{Exit};
+ghost use Rattle.ml_meaning.specs.Growth.{Begins};
 ghost use Rattle.ml_meaning.specs.Patterns.{Env as Bindings};
 ghost use Rattle.ml_meaning.specs.Programs as m;
-ghost use Rattle.ml_values.specs.Shown.{names};
+ghost use Rattle.ml_meaning.specs.Tellings.{NoMatch, Setting, failure_line};
+ghost use Rattle.ml_values.specs.Shown.{names, value, values_list};
+ghost use Rattle.ml_values.specs.Telling.{puts};
+ghost use Rattle.ml_steps.specs.Left.{next_run};
 ghost use Rattle.ml_steps.specs.Worlds.{setting_of};
-ghost use Rattle.ml_run.specs.Stack.{Began, Tells, matched_run, several_run, values_run};
-ghost use Rattle.ml_run.specs.Whole.{Holds};
+ghost use Rattle.ml_run.specs.Stack.{Began, Tells, bound_run, fitted_run, matched_run, several_run, values_run};
+ghost use Rattle.ml_run.specs.Whole.{Holds, tops_of};
 
 use crate::evaluate::{Evaluated, evaluate};
 use ml_functions::weighed_binds;
@@ -33,7 +39,9 @@ pub enum Matched<'a> {
 }
 
 /// What is evaluated for a binding; one with parameters is a function.
-fn bound_next<'a>(bind: &'a Bind, fuel: u64) -> Next<'a> {
+fn bound_next<'a>(bind: &'a Bind, fuel: u64) -> Next<'a>
+    ensures { (s : Setting Event) → next_run s result ≡ bound_run s bind.entry.now fuel }
+{
     let here = Here {
         mode: Mode::Inner,
         env: Env::Nothing,
@@ -56,11 +64,13 @@ fn item_words<'t, 'a>(
     ensures out { Began out.old.items out.new.items (values_run (setting_of world.entry) binds.entry.now fuel) }
 {
     let mut words = Words::Empty;
-    for bind in binds.iter().rev() {
+    let mut left = binds;
+    while let Some((bind, before)) = left.split_last() {
         match evaluate(world, out, bound_next(bind, fuel))? {
             Evaluated::Value(word) => words = and(world.tools.bump, word, words)?,
             Evaluated::End(ending) => return Ok(Several::End(ending)),
         }
+        left = before;
     }
     Ok(Several::Values(words))
 }
@@ -71,16 +81,26 @@ fn match_words<'t, 'a>(
     out: &mut Vec<Event>,
     binds: &'a [Bind],
     words: Words<'a>,
-) -> Result<Matched<'a>, NoMemory> {
+) -> Result<Matched<'a>, NoMemory>
+    ensures ended { IfOk result (λ names. Tells out.old.items out.new.items (fitted_run (setting_of world.entry) binds.entry.now (values_list words.entry)) (matched_run names)) }
+    ensures out { Began out.old.items out.new.items (fitted_run (setting_of world.entry) binds.entry.now (values_list words.entry)) }
+{
     match fit_binds(world.tools, binds, words, Env::Nothing)? {
         Some(names) => Ok(Matched::Names(names)),
-        None => {
-            let mut told = Vec::new(world.tools.alloc);
-            let ending = fail(&mut told, Failure::NoMatch)?;
-            out.extend_from_slice(told.as_slice())?;
-            Ok(Matched::End(ending))
-        }
+        None => Ok(Matched::End(no_match(world.tools.alloc, out)?)),
     }
+}
+
+/// A value fits no pattern: its line is told whole, or not at all.
+fn no_match(alloc: Global, out: &mut Vec<Event>) -> Result<Ending, NoMemory>
+    ensures ended { OnOk result (out.new.items ≡ out.old.items ++ puts 2 (failure_line NoMatch)) }
+    ensures ending { IfOk result (λ ending. ending ≡ Exit 2) }
+    ensures out { OnErr result (out.new.items ≡ out.old.items) }
+{
+    let mut told = Vec::new(alloc);
+    let ending = fail(&mut told, Failure::NoMatch)?;
+    out.extend_from_slice(told.as_slice())?;
+    Ok(ending)
 }
 
 /// Evaluates what an item binds, right to left, and matches it left to right.
@@ -107,7 +127,7 @@ fn item_names<'t, 'a>(
 
 /// The weight of an item; an item of types has no nodes.
 fn item_weight(kind: &ItemKind) -> Result<u64, NoMemory>
-    ensures { IfOk result (λ words. words ≡ m.item_weight Event kind.now) }
+    ensures { (s : Setting Event) → IfOk result (λ words. words ≡ m.item_weight Event s kind.now) }
 {
     match kind {
         ItemKind::Types(_) => Ok(64),
@@ -129,16 +149,34 @@ pub fn run_item<'t, 'a>(
     ensures out { Began out.old.items out.new.items (m.item_evaluated Event (setting_of world.entry) fuel kind.entry.now) }
 {
     let weight = item_weight(kind)?;
-    out.push(Event::Enter { weight })?;
-    out.push(Event::Open)?;
+    enter(out, weight)?;
     match item_names(world, out, kind, fuel)? {
         Matched::Names(names) => {
-            out.push(Event::Close)?;
-            out.push(Event::Leave { weight })?;
+            leave(out, weight)?;
             Ok(Matched::Names(names))
         }
         Matched::End(ending) => Ok(Matched::End(ending)),
     }
+}
+
+/// An item of this weight begins.
+fn enter(out: &mut Vec<Event>, weight: u64) -> Result<(), NoMemory>
+    ensures all { OnOk result (out.new.items ≡ out.old.items ++ (Enter weight ∷ (Open ∷ []))) }
+    ensures out { Begins out.new.items (out.old.items ++ (Enter weight ∷ (Open ∷ []))) }
+{
+    out.push(Event::Enter { weight })?;
+    out.push(Event::Open)?;
+    Ok(())
+}
+
+/// An item of this weight ends.
+fn leave(out: &mut Vec<Event>, weight: u64) -> Result<(), NoMemory>
+    ensures all { OnOk result (out.new.items ≡ out.old.items ++ (Close ∷ (Leave weight ∷ []))) }
+    ensures out { Begins out.new.items (out.old.items ++ (Close ∷ (Leave weight ∷ []))) }
+{
+    out.push(Event::Close)?;
+    out.push(Event::Leave { weight })?;
+    Ok(())
 }
 
 /// A name with its value.
@@ -148,13 +186,9 @@ struct Top<'a> {
     word: Word<'a>,
 }
 
-/// The top-level names take their values, the latest where a name stands several times.
-pub fn set_tops<'a>(
-    alloc: Global,
-    tops: &mut [Option<Word<'a>>],
-    env: Env<'a>,
-) -> Result<(), NoMemory>
-    ensures { (before : Bindings) → Holds tops.old before → OnOk result (Holds tops.new (names env.entry ++ before)) }
+/// The names with their values, the latest first.
+fn listed<'a>(alloc: Global, env: Env<'a>) -> Result<Vec<Top<'a>>, NoMemory>
+    ensures { IfOk result (λ list. tops_of list.items ≡ names env.entry) }
 {
     let mut list = Vec::new(alloc);
     let mut rest = env;
@@ -165,19 +199,33 @@ pub fn set_tops<'a>(
         })?;
         rest = bound.rest;
     }
-    for top in list.as_slice().iter().rev() {
-        set_top(tops, *top)?;
+    Ok(list)
+}
+
+/// The top-level names take their values, the latest where a name stands several times.
+pub fn set_tops<'a>(
+    alloc: Global,
+    tops: &mut [Option<Word<'a>>],
+    env: Env<'a>,
+) -> Result<(), NoMemory>
+    ensures { (before : Bindings) → Holds tops.old before → OnOk result (Holds tops.new (names env.entry ++ before)) }
+{
+    let mut list = listed(alloc, env)?;
+    while let Some(top) = list.pop() {
+        set_top(tops, top)?;
     }
     Ok(())
 }
 
 /// A top-level name takes its value.
-fn set_top<'a>(tops: &mut [Option<Word<'a>>], top: Top<'a>) -> Result<(), NoMemory> {
-    match tops.get_mut(top.name as usize) {
-        Some(slot) => {
-            *slot = Some(top.word);
-            Ok(())
-        }
-        None => Err(NoMemory),
+#[tactic(auto, using(crate::proofs::Tops::holds_set))]
+fn set_top<'a>(tops: &mut [Option<Word<'a>>], top: Top<'a>) -> Result<(), NoMemory>
+    ensures { (before : Bindings) → Holds tops.old before → OnOk result (Holds tops.new ((top.entry.name, value top.entry.word) ∷ before)) }
+{
+    let name = top.name as usize;
+    if name < tops.len() {
+        tops[name] = Some(top.word);
+        return Ok(());
     }
+    Err(NoMemory)
 }

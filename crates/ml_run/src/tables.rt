@@ -1,8 +1,8 @@
 //! The tables of a program: its functions, its declarations, and the function that `@` applies.
-ghost use Rattle.std.specs.Prelude.{◌≡◌, IfOk, OnOk, map, slice_get};
+ghost use Rattle.std.specs.Prelude.{◌≡◌, ◌++◌, IfOk, OnOk, slice_get};
 ghost use Rattle.std.specs.List.{flat_map};
 ghost use Rattle.ml_meaning.specs.Programs as m;
-ghost use Rattle.ml_run.specs.Whole.{IsProgram};
+ghost use Rattle.ml_run.specs.Whole.{IsProgram, decls_of};
 
 use bumpalo::Bump;
 use ml_functions::{Functions, functions};
@@ -34,7 +34,9 @@ fn declared<'a>(kind: &'a ItemKind) -> &'a [Decl]
 }
 
 /// The declarations of one item after those of the items before.
-fn push_decls<'a>(list: &mut Vec<Written<'a>>, decls: &'a [Decl]) -> Result<(), NoMemory> {
+fn push_decls<'a>(list: &mut Vec<Written<'a>>, decls: &'a [Decl]) -> Result<(), NoMemory>
+    ensures { OnOk result (decls_of list.new.items ≡ decls_of list.old.items ++ decls.entry.now) }
+{
     for decl in decls {
         list.push(Written { decl })?;
     }
@@ -43,7 +45,7 @@ fn push_decls<'a>(list: &mut Vec<Written<'a>>, decls: &'a [Decl]) -> Result<(), 
 
 /// The written declarations, in the order of the source.
 fn declarations<'a>(alloc: Global, items: &'a [Item]) -> Result<Vec<Written<'a>>, NoMemory>
-    ensures { IfOk result (λ list. map (λ w. w.decl.now) list.items ≡ flat_map (λ i. m.declarations_of i.kind) items.entry.now) }
+    ensures { IfOk result (λ list. decls_of list.items ≡ flat_map (λ i. m.declarations_of i.kind) items.entry.now) }
 {
     let mut list = Vec::new(alloc);
     for item in items {

@@ -1,0 +1,48 @@
+-- The values of the top-level names, as they are set.
+use Rattle.std.proofs.Common.{◌≡◌, ◌≢◌, ℕ, zero, suc, ◌<◌, ◌-◌, ◌==◌, List, [], ◌∷◌, ◌++◌, length, map, take, Option, Some, None, slice_get, if◌then◌else◌, refl, sym, ap, ◌∙◌, arith, inl, inr}
+use Rattle.std.proofs.Math.ListN.{replicate, set}
+use Rattle.std.proofs.lemmas.Bool.{cases_eq}
+use Rattle.ml_meaning.specs.Names.{lookup}
+use Rattle.ml_meaning.specs.Patterns.{Env}
+use Rattle.ml_meaning.specs.Values.{Value}
+use Rattle.ml_values.specs.declared.value.Word.{Word}
+use Rattle.ml_values.specs.Shown.{value}
+use Rattle.ml_steps.specs.Worlds.{top_value}
+use Rattle.ml_run.specs.declared.items.Top.{Top}
+use Rattle.ml_run.specs.Whole.{Holds, tops_of}
+
+-- no name has a value
+pub holds_none : (n : ℕ) → Holds (replicate n None) []
+holds_none zero k = refl
+holds_none (suc n) zero = refl
+holds_none (suc n) (suc k) = holds_none n k
+
+set_here : (tops : List (Option Word)) (n : ℕ) (o : Option Word) → n < length tops → slice_get (set tops n o) n ≡ Some o
+set_here [] n o h = absurd (omega arith)
+set_here (t ∷ ts) zero o h = refl
+set_here (t ∷ ts) (suc n) o h = set_here ts n o (omega arith)
+
+set_there : (tops : List (Option Word)) (n k : ℕ) (o : Option Word) → n ≢ k → slice_get (set tops n o) k ≡ slice_get tops k
+set_there [] n k o ne = refl
+set_there (t ∷ ts) zero zero o ne = absurd (ne refl)
+set_there (t ∷ ts) zero (suc k) o ne = refl
+set_there (t ∷ ts) (suc n) zero o ne = refl
+set_there (t ∷ ts) (suc n) (suc k) o ne = set_there ts n k o (λ e. ne (ap suc e))
+
+lookup_here : (n k : ℕ) (v : Value) (env : Env) → n ≡ k → lookup k ((n, v) ∷ env) ≡ Some v
+lookup_here n k v env e = grind arith
+
+lookup_there : (n k : ℕ) (v : Value) (env : Env) → n ≢ k → lookup k ((n, v) ∷ env) ≡ lookup k env
+lookup_there n k v env ne = grind arith
+
+-- a name has its value now, and the others have theirs
+pub holds_set : (tops : List (Option Word)) (n : ℕ) (word : Word) (env : Env) → n < length tops → Holds tops env → Holds (set tops n (Some word)) ((n, value word) ∷ env)
+holds_set tops n word env h holds k =
+    elim (cases_eq n k) [
+      inl e ↦ ap (λ j. top_value (slice_get (set tops n (Some word)) j)) (sym e) ∙ (ap top_value (set_here tops n (Some word) h) ∙ sym (lookup_here n k (value word) env e))
+      | inr ne ↦ ap top_value (set_there tops n k (Some word) ne) ∙ (holds k ∙ sym (lookup_there n k (value word) env ne))
+    ]
+
+pub tops_last : (list : List Top) (t : Top) → tops_of (list ++ (t ∷ [])) ≡ tops_of list ++ ((t.name, value t.word) ∷ [])
+tops_last [] t = refl
+tops_last (u ∷ us) t = ap (λ l. (u.name, value u.word) ∷ l) (tops_last us t)
