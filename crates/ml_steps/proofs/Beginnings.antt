@@ -1,5 +1,5 @@
 -- How a step begins: all parts from the last on, a constructor, a region that is closed or opened first.
-use Rattle.std.proofs.Common.{◌≡◌, ℕ, List, [], ◌∷◌, ◌++◌, length, take, Option, Some, Result, Ok, Err, IfOk, refl, sym, ap, ◌∙◌, subst, append-nil}
+use Rattle.std.proofs.Common.{◌≡◌, ℕ, List, [], ◌∷◌, ◌++◌, length, take, Some, Result, Ok, Err, IfOk, sym, ap, ◌∙◌, subst, append-nil}
 use Rattle.std.proofs.Math.Seq.{take-length}
 use Rattle.ml_tree.specs.declared.pattern.ConName.{ConName}
 use Rattle.ml_tree.specs.declared.expr.Expr.{Expr}
@@ -9,7 +9,7 @@ use Rattle.ml_meaning.specs.Names.{constructor_place}
 use Rattle.ml_meaning.specs.Patterns as p
 use Rattle.ml_meaning.specs.Runs.{Run, after, ◌>>=◌}
 use Rattle.ml_meaning.specs.Values.{Value, listed}
-use Rattle.ml_meaning.specs.Tellings.{Setting, Meaning, Inner, finish, named, or_stuck}
+use Rattle.ml_meaning.specs.Tellings.{Setting, Inner, finish, named, or_stuck}
 use Rattle.ml_meaning.specs.Evaluation as m
 use Rattle.ml_meaning.specs.Programs.{calls, evaluate, expr_meaning}
 use Rattle.ml_values.specs.declared.told.Mode.TheVariants as mode
@@ -55,9 +55,9 @@ module _ (s : Setting Event) (here : Here) where
   borrow_is node body inner v before now step found opened at bound fuelled same =
       let rest : p.Env → Run Event Value = λ env. followed (evaluate Event s body (calls_of s here) Inner env) (then_run s then.Borrow here) in
       let inside : evaluated s body inner ≡ evaluate Event s body (calls_of s here) Inner ((node, v) ∷ names here.env) =
-          ap (λ n. evaluate Event s body (calls Event s n) (mode_of inner.mode) (names inner.env)) fuelled
-          ∙ (ap (λ md. evaluate Event s body (calls_of s here) (mode_of md) (names inner.env)) at
-          ∙ ap (λ env. evaluate Event s body (calls_of s here) Inner env) bound) in
+      ap (λ n. evaluate Event s body (calls Event s n) (mode_of inner.mode) (names inner.env)) fuelled
+      ∙ (ap (λ md. evaluate Event s body (calls_of s here) (mode_of md) (names inner.env)) at
+      ∙ ap (λ env. evaluate Event s body (calls_of s here) Inner env) bound) in
       ap (λ o. after before (or_stuck o >>= λ u. after (s.told event.Open) (rest ((node, u) ∷ names here.env)))) (sym found)
       ∙ (ap (after before) (after_none (after (s.told event.Open) (rest ((node, v) ∷ names here.env))))
       ∙ (after_after before (s.told event.Open) (rest ((node, v) ∷ names here.env))

@@ -1,14 +1,10 @@
 -- What each kind of expression evaluates to, by the runs of its parts.
-use Rattle.std.proofs.Common.{◌≡◌, ℕ, zero, suc, ℤ, Bool, List, [], ◌∷◌, ◌++◌, map, take, drop, length, Option, Some, None, refl, sym, ap, ◌∙◌}
+use Rattle.std.proofs.Common.{◌≡◌, ℕ, zero, suc, Bool, List, [], ◌∷◌, ◌++◌, map, length, Option, Some, None, refl, sym, ap, ◌∙◌}
 use Rattle.std.proofs.lemmas.Simd.{map-map}
-use Rattle.oxml_base.specs.declared.literal.Lit.{Lit}
 use Rattle.oxml_base.specs.declared.span.Span.{Span}
 use Rattle.ml_tree.specs.declared.words.Words.{Words}
 use Rattle.ml_tree.specs.declared.types.TyExpr.{TyExpr}
-use Rattle.ml_tree.specs.declared.pattern.ConName.{ConName}
-use Rattle.ml_tree.specs.declared.pattern.Param.{Param}
 use Rattle.ml_tree.specs.declared.reference.Op.TheVariants as operation
-use Rattle.ml_tree.specs.declared.expr.BinOp.{BinOp}
 use Rattle.ml_tree.specs.declared.expr.Arm.{Arm}
 use Rattle.ml_tree.specs.declared.expr.Bind.{Bind, out-Bind, fold_out-Bind}
 use Rattle.ml_tree.specs.declared.expr.Expr.{Expr, out-Expr, fold_out-Expr}
@@ -18,25 +14,22 @@ use Rattle.ml_tree.specs.declared.expr.ExprKind.TheOpen as e
 use Rattle.ml_tree.specs.declared.expr.ExprKind.TheOpen.{ExprKind-F}
 use Rattle.ml_tree.specs.declared.expr.ExprKind.TheVariants as E
 use Rattle.ml_meaning.specs.declared.event.Event.{Event}
-use Rattle.ml_meaning.specs.Arithmetic.{wrapped}
-use Rattle.ml_meaning.specs.Names.{constructor_place, field_place}
+use Rattle.ml_meaning.specs.Names.{field_place}
 use Rattle.ml_meaning.specs.Operations.{operate}
 use Rattle.ml_meaning.specs.Patterns.{fits, all_fit}
 use Rattle.ml_meaning.specs.Runs.{Run, Done, after, ◌>>=◌}
-use Rattle.ml_meaning.specs.Values.{Value, Number, Character, Bytes, Constant, cell, empty_list, unit_value}
+use Rattle.ml_meaning.specs.Values.{Value, cell, empty_list, unit_value}
 use Rattle.ml_meaning.specs.Tellings.{Setting, Meaning, Inner, branch, finish, made}
 use Rattle.ml_meaning.specs.Evaluation as m
 use Rattle.ml_meaning.specs.Evaluation.{Form, Ordinary, Named, Several, Builds, ExprMeaning, ArmMeaning, BindMeaning, step}
 use Rattle.ml_meaning.specs.Programs.{arm_step, bind_step, expr_step, field_step, expr_meaning, arm_meaning, bind_meaning, evaluate}
 use Rattle.ml_values.specs.Shown.{names}
 use Rattle.ml_values.specs.Telling.{mode_of}
-use Rattle.ml_steps.specs.declared.frame.Finish.{Finish}
 use Rattle.ml_steps.specs.declared.frame.Finish.TheVariants as last
 use Rattle.ml_steps.specs.declared.frame.Here.{Here}
-use Rattle.ml_steps.specs.declared.frame.Parts.TheVariants as parts
 use Rattle.ml_steps.specs.declared.frame.Then.TheVariants as then
-use Rattle.ml_steps.specs.Left.{all_parts_run, application_run, at_place, bind_value, borrow_run, bound_run, calls_of, chain_onto, chain_run, closure_run, con_run, evaluated, field_part, finish_run, followed, inner_run, kind_meaning, kind_run, name_run, operated, record_run, sequence_run, several, then_run}
-use Rattle.ml_steps.proofs.RunsVisits.{after_none, after_two, bind_same, map_same, take_all_of}
+use Rattle.ml_steps.specs.Left.{application_run, at_place, bind_value, borrow_run, bound_run, calls_of, chain_onto, chain_run, evaluated, field_part, finish_run, followed, inner_run, kind_meaning, kind_run, record_run, sequence_run, several, then_run}
+use Rattle.ml_steps.proofs.RunsVisits.{after_none, after_two, map_same, take_all_of}
 
 abbrev several_of : Form (Meaning Event) → Option (List (Meaning Event))
 several_of form = elim (form) [ Several ms ↦ Some ms | _ ↦ None ]
@@ -81,28 +74,7 @@ module _ (s : Setting Event) (k : ExprKind) (node : ℕ) (here : Here) where
   runs : (l : ExprKind-F ExprKind Arm Bind Expr FieldExpr) (v : ExprKind) → k ≡ v → roll-ExprKind l ≡ v → kind_run s k node here ≡ at_place s (step Event s (meant s l) node).run here
   runs l v is rolls = ap (λ m. at_place s m.run here) (kind_is s k node l v is rolls)
 
-  -- ---- without parts, or with one that takes the place of the whole
-
-  pub run_int : (z : ℤ) → k ≡ E.Int z → kind_run s k node here ≡ finish Event s (mode_of here.mode) (Number (wrapped z))
-  run_int z is = runs (e.Int z) _ is (E.rolls-Int z)
-
-  pub run_char : (byte : ℕ) → k ≡ E.Char byte → kind_run s k node here ≡ finish Event s (mode_of here.mode) (Character byte)
-  run_char byte is = runs (e.Char byte) _ is (E.rolls-Char byte)
-
-  pub run_text : (lit : Lit) → k ≡ E.Text lit → kind_run s k node here ≡ finish Event s (mode_of here.mode) (Bytes lit.bytes)
-  run_text lit is = runs (e.Text lit) _ is (E.rolls-Text lit)
-
-  pub run_name : (name : Span) → k ≡ E.Name name → kind_run s k node here ≡ name_run s node here
-  run_name name is = runs (e.Name name) _ is (E.rolls-Name name)
-
-  pub run_path : (name part : Span) → k ≡ E.Path name part → kind_run s k node here ≡ name_run s node here
-  run_path name part is = runs (e.Path name part) _ is (E.rolls-Path name part)
-
-  pub run_fun : (params : List Param) (body : Expr) → k ≡ E.Fun params body → kind_run s k node here ≡ closure_run s node here
-  run_fun params body is = runs (e.Fun params body) _ is (E.rolls-Fun params body)
-
-  pub run_function : (arms : List Arm) → k ≡ E.Function arms → kind_run s k node here ≡ closure_run s node here
-  run_function arms is = runs (e.Function arms) _ is (E.rolls-Function arms)
+  -- ---- with one part that takes the place of the whole, or with a region
 
   pub run_exclave : (a : Expr) → k ≡ E.Exclave a → kind_run s k node here ≡ at_place s (m.exclave Event s (evaluate Event s a)) here
   run_exclave a is = runs (e.Exclave a) _ is (E.rolls-Exclave a)
@@ -130,9 +102,6 @@ module _ (s : Setting Event) (k : ExprKind) (node : ℕ) (here : Here) where
   pub run_worded : (words : Words) (a : Expr) → k ≡ E.Worded words a → kind_run s k node here ≡ followed (inner_run s a here) (then_run s then.Finish here)
   run_worded words a is = runs (e.Worded words a) _ is (E.rolls-Worded words a)
 
-  pub run_binary : (o : BinOp) (a b : Expr) → k ≡ E.Binary o a b → kind_run s k node here ≡ at_place s (m.binary Event s node o (evaluate Event s a) (evaluate Event s b)) here
-  run_binary o a b is = runs (e.Binary o a b) _ is (E.rolls-Binary o a b)
-
   pub run_if : (a b other : Expr) → k ≡ E.If a b (Some other) → kind_run s k node here ≡ followed (inner_run s a here) (λ v. branch v (evaluated s b here) (evaluated s other here))
   run_if a b other is = runs (e.If a b (Some other)) _ is (E.rolls-If a b (Some other))
 
@@ -143,16 +112,6 @@ module _ (s : Setting Event) (k : ExprKind) (node : ℕ) (here : Here) where
   run_match a arms is = runs (e.Match a arms) _ is (E.rolls-Match a arms)
 
   -- ---- with several parts first
-
-  pub run_con : (name : ConName) (a : Expr) (place : ℕ) → k ≡ E.Con name (Some a) → constructor_place s.names name node ≡ Some place → kind_run s k node here ≡ all_run s here (m.fields_of Event s (m.field_count Event s (s.names node)) (expr_meaning Event s a)) (finish_run s (last.Build node place) here)
-  run_con name a place is at =
-      runs (e.Con name (Some a)) _ is (E.rolls-Con name (Some a))
-      ∙ ap (λ p. all_run s here (m.fields_of Event s (m.field_count Event s (s.names node)) (expr_meaning Event s a)) (λ vs. m.block Event s node p vs >>= finish Event s (mode_of here.mode))) at
-
-  pub run_constant : (name : ConName) (place : ℕ) → k ≡ E.Con name None → constructor_place s.names name node ≡ Some place → kind_run s k node here ≡ finish Event s (mode_of here.mode) (Constant place)
-  run_constant name place is at =
-      runs (e.Con name None) _ is (E.rolls-Con name None)
-      ∙ (ap (λ p. m.constant Event s (mode_of here.mode) p) at ∙ after_none (finish Event s (mode_of here.mode) (Constant place)))
 
   pub run_cons : (a b : Expr) → k ≡ E.Cons a b → kind_run s k node here ≡ all_run s here (evaluate Event s a ∷ (evaluate Event s b ∷ [])) (finish_run s (last.Build node 1) here)
   run_cons a b is = runs (e.Cons a b) _ is (E.rolls-Cons a b)
@@ -172,9 +131,9 @@ module _ (s : Setting Event) (k : ExprKind) (node : ℕ) (here : Here) where
   run_index a b is =
       runs (e.Index a b) _ is (E.rolls-Index a b)
       ∙ after_two (inner_run s b here) (inner_run s a here)
-          (λ vs. operate Event s (Some node) operation.StringGet vs >>= finish Event s (mode_of here.mode))
-          (finish_run s (last.Operate node operation.StringGet) here)
-          (λ x y. refl)
+      (λ vs. operate Event s (Some node) operation.StringGet vs >>= finish Event s (mode_of here.mode))
+      (finish_run s (last.Operate node operation.StringGet) here)
+      (λ x y. refl)
 
   pub run_let : (recursive : Bool) (bs : List Bind) (body : Expr) → k ≡ E.Let recursive bs body → kind_run s k node here ≡ all_run s here (map (bind_value s) bs) (bound_run s bs body here)
   run_let recursive bs body is =

@@ -1,5 +1,5 @@
 -- Laws of runs, and of lists of runs, for how expressions begin.
-use Rattle.std.proofs.Common.{◌≡◌, ℕ, zero, suc, List, [], ◌∷◌, ◌++◌, map, take, drop, length, Option, Some, None, slice_get, unwrap_or, refl, sym, ap, ◌∙◌, append_assoc}
+use Rattle.std.proofs.Common.{◌≡◌, ℕ, zero, suc, List, [], ◌∷◌, ◌++◌, map, take, drop, length, Option, Some, slice_get, unwrap_or, refl, sym, ap, ◌∙◌, append_assoc}
 use Rattle.ml_meaning.specs.declared.event.Event.{Event}
 use Rattle.ml_meaning.specs.Functions.{FunctionCode}
 use Rattle.ml_meaning.specs.Names.{References}
@@ -55,6 +55,3 @@ pub drop_first : {A : Type 0} (xs : List A) (k : ℕ) (x : A) → slice_get xs k
 drop_first [] k x is = cc
 drop_first (y ∷ ys) zero x is = ap (λ o. unwrap_or o y ∷ ys) is
 drop_first (y ∷ ys) (suc k) x is = drop_first ys k x is
-
-pub some_is : {A : Type 0} (x y : A) → Some x ≡ Some y → x ≡ y
-some_is x y is = ap (λ o. unwrap_or o x) is

@@ -248,7 +248,11 @@ fn visit_borrow<'t, 'a>(
     };
     told.push(Event::Open)?;
     let env = bind(world.tools.bump, node, word, here.env)?;
-    Ok(go_on_then(Next::Visit(body, here.with(env).inner()), Then::Borrow, here))
+    Ok(go_on_then(
+        Next::Visit(body, here.with(env).inner()),
+        Then::Borrow,
+        here,
+    ))
 }
 
 /// The construction of an overwrite, under parentheses too.
@@ -327,7 +331,11 @@ fn visit_kind<'t, 'a>(
     match kind {
         ExprKind::Int(z) => Ok(go_on(finish(told, here.mode, Word::Number(wrapped(*z as i128)))?)),
         ExprKind::Char(byte) => Ok(go_on(finish(told, here.mode, Word::Character(*byte))?)),
-        ExprKind::Text(lit) => Ok(go_on(finish(told, here.mode, Word::Bytes(lit.bytes.as_slice()))?)),
+        ExprKind::Text(lit) => Ok(go_on(finish(
+            told,
+            here.mode,
+            Word::Bytes(lit.bytes.as_slice()),
+        )?)),
         ExprKind::Name(_) => Ok(go_on(visit_name(world, told, node, here)?)),
         ExprKind::Path(_, _) => Ok(go_on(visit_name(world, told, node, here)?)),
         ExprKind::List(items) => chain(
@@ -439,9 +447,13 @@ fn visit_one<'t, 'a>(
             Then::Project(field_place(world.tools.scoped, node)),
             here,
         )),
-        ExprKind::Binary(op, one, other) => Ok(
-            visit_binary(node, *op, one.get(), other.get(), here),
-        ),
+        ExprKind::Binary(op, one, other) => Ok(visit_binary(
+            node,
+            *op,
+            one.get(),
+            other.get(),
+            here,
+        )),
         ExprKind::Minus(inner) => Ok(evaluate_then(inner.get(), Then::Negate, here)),
         ExprKind::If(condition, branch, other) => match other {
             Some(other) => Ok(evaluate_then(
@@ -451,9 +463,11 @@ fn visit_one<'t, 'a>(
             )),
             None => Ok(evaluate_then(condition.get(), Then::Branch(branch.get(), None), here)),
         },
-        ExprKind::Match(scrutinee, arms) => Ok(
-            evaluate_then(scrutinee.get(), Then::Choose(arms.as_slice()), here),
-        ),
+        ExprKind::Match(scrutinee, arms) => Ok(evaluate_then(
+            scrutinee.get(),
+            Then::Choose(arms.as_slice()),
+            here,
+        )),
         ExprKind::Paren(inner) => Ok(go_on(Next::Visit(inner.get(), here))),
         ExprKind::Typed(inner, _) => Ok(go_on(Next::Visit(inner.get(), here))),
         ExprKind::Worded(_, inner) => Ok(evaluate_then(inner.get(), Then::Finish, here)),

@@ -1,4 +1,4 @@
-use Rattle.std.proofs.Common.{Some, sym, ap, ◌∙◌}
+use Rattle.std.proofs.Common.{sym, ap, ◌∙◌}
 use Rattle.ml_tree.specs.declared.expr.ExprKind.TheVariants as E
 use Rattle.ml_steps.proofs.KindRuns.{tuple_parts}
 use Rattle.ml_steps.proofs.visits.+tuple_of.Goals as goal

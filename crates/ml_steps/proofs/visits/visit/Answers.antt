@@ -1,4 +1,4 @@
-use Rattle.std.proofs.Common.{refl, sym, ap, ◌∙◌}
+use Rattle.std.proofs.Common.{refl}
 use Rattle.ml_steps.specs.Worlds.{setting_of}
 use Rattle.ml_steps.proofs.Beginnings.{steps_as}
 use Rattle.ml_steps.proofs.KindRuns.{evaluated_is}
