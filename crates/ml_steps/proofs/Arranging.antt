@@ -1,5 +1,5 @@
 -- The values of a record's fields, put into the order of the declaration.
-use Rattle.std.proofs.Common.{◌≡◌, ◌≢◌, ◌<◌, ◌≤◌, ◌+◌, ◌-◌, ◌==◌, ℕ, zero, suc, true, false, List, [], ◌∷◌, ◌++◌, Option, Some, None, Result, Ok, Err, map, length, get_or, take, drop, set, replicate, slice_get, refl, sym, ap, ◌∙◌, arith, tests, add-one, drop-cons, append_assoc}
+use Rattle.std.proofs.Common.{◌≡◌, ◌≢◌, ◌<◌, ◌≤◌, ◌+◌, ◌-◌, ◌==◌, ℕ, zero, suc, true, false, List, [], ◌∷◌, ◌++◌, Option, Some, None, Result, Ok, Err, map, length, get_or, drop, set, replicate, slice_get, refl, sym, ap, ◌∙◌, arith, tests, drop-cons, append_assoc}
 use Rattle.std.specs.Prelude.{IfOk, if◌then◌else◌, nat_lt}
 use Rattle.std.specs.List.{range_with_len}
 use Rattle.std.specs.Option.{option_map}

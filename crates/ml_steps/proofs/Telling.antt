@@ -1,7 +1,9 @@
 -- What a run tells, with what was told before it: how the steps of a function come together.
-use Rattle.std.proofs.Common.{◌≡◌, ◌+◌, ℕ, List, [], ◌∷◌, ◌++◌, length, map, take, drop, Option, Some, None, Result, Ok, Err, refl, sym, ap, ◌∙◌}
+use Rattle.std.proofs.Common.{◌≡◌, ◌≢◌, ◌+◌, ℕ, List, [], ◌∷◌, ◌++◌, length, map, take, drop, Option, Some, None, Result, Ok, Err, refl, sym, ap, ◌∙◌}
 use Rattle.std.specs.Option.{option_map}
 use Rattle.std.proofs.Math.Seq.{take-append_seam, drop-append_seam}
+use Rattle.ml_tree.specs.declared.expr.BinOp.{BinOp}
+use Rattle.ml_tree.specs.declared.expr.BinOp.TheVariants as binary
 use Rattle.ml_tree.specs.declared.expr.Bind.{Bind}
 use Rattle.ml_tree.specs.declared.expr.Expr.{Expr}
 use Rattle.ml_tree.specs.declared.expr.FieldExpr.{FieldExpr}
@@ -9,9 +11,9 @@ use Rattle.ml_tree.specs.declared.reference.Op.{Op}
 use Rattle.std.specs.Prelude.{IfOk}
 use Rattle.ml_meaning.specs.declared.event.Event.{Event}
 use Rattle.ml_meaning.specs.declared.event.Event.TheVariants as event
-use Rattle.ml_meaning.specs.Runs.{Run, Done, Stop, Stuck, after, ◌>>=◌}
+use Rattle.ml_meaning.specs.Runs.{Run, Done, after, ◌>>=◌}
 use Rattle.ml_meaning.specs.Evaluation.{closure, matched, operation_result, paired, placed}
-use Rattle.ml_meaning.specs.Operations.{operate, operation_arity}
+use Rattle.ml_meaning.specs.Operations.{operate, operation_arity, operator}
 use Rattle.ml_meaning.specs.Patterns.{Env, all_fit}
 use Rattle.ml_meaning.specs.Names.{field_place}
 use Rattle.ml_meaning.specs.Programs.{calls, evaluate}
@@ -23,13 +25,16 @@ use Rattle.ml_meaning.specs.Values.{Value, packed}
 use Rattle.ml_values.specs.declared.told.Mode.{Mode}
 use Rattle.ml_values.specs.declared.told.Mode.TheVariants as mode
 use Rattle.ml_values.specs.declared.value.Word.TheVariants as W
+use Rattle.ml_values.specs.declared.value.Word.{Word}
 use Rattle.ml_values.specs.declared.value.Words.{Words}
+use Rattle.ml_values.specs.declared.value.Words.TheVariants as L
 use Rattle.ml_values.specs.Shown.{names, value, values, values_list}
 use Rattle.ml_values.specs.Telling.{mode_of}
-use Rattle.ml_values.proofs.Layers.{block_is}
+use Rattle.ml_values.proofs.Layers.{block_is, empty_is}
 use Rattle.ml_steps.specs.declared.frame.Here.{Here}
 use Rattle.ml_steps.specs.declared.frame.Next.{Next}
-use Rattle.ml_steps.specs.Left.{Nexts, arranged_parts, bound_run, built, calls_of, closure_run, field_part, finished, next_run, operated, over_applied_run, overwritten_run, record_run}
+use Rattle.ml_steps.specs.declared.frame.Step.{Step}
+use Rattle.ml_steps.specs.Left.{Nexts, Steps, apply_run, arranged_parts, bound_run, built, calls_of, closure_run, field_part, finished, next_run, operands_run, operated, over_applied_run, overwritten_run, record_run, step_run}
 use Rattle.ml_steps.proofs.RunsParts.{after_none, packed_listed, tells, goes_on}
 
 -- the run, with what was told before it, is what the result means, with what is told now
@@ -41,6 +46,11 @@ pub told_as : {X F : Type 0} (mean : X → Run Event Value) (before now : List E
 told_as mean before now (Ok x) run other e h = ap (after before) e ∙ h
 told_as mean before now (Err x) run other e h = tt
 
+-- with nothing told
+pub told_now : {X F : Type 0} (mean : X → Run Event Value) (now : List Event) (r : Result X F) (run : Run Event Value) → IfOk r (λ x. mean x ≡ run) → Told mean now now r run
+told_now mean now (Ok x) run h = ap (after now) (sym h)
+told_now mean now (Err x) run h = tt
+
 -- with these events in between
 pub told_then : {X F : Type 0} (mean : X → Run Event Value) (before mid now es : List Event) (r : Result X F) (run : Run Event Value) → mid ≡ before ++ es → Told mean mid now r run → Told mean before now r (after es run)
 told_then mean before mid now es (Ok x) run e h = tells before mid es run e ∙ h
@@ -50,6 +60,11 @@ told_then mean before mid now es (Err x) run e h = tt
 pub told_given : {X F A : Type 0} (mean : X → Run Event Value) (before mid now : List Event) (r : Result X F) (run given : Run Event A) (k : A → Run Event Value) → after before run ≡ after mid given → Told mean mid now r (given >>= k) → Told mean before now r (run >>= k)
 told_given mean before mid now (Ok x) run given k e h = goes_on before mid run given k e ∙ h
 told_given mean before mid now (Err x) run given k e h = tt
+
+-- a list of two values
+pub two_values : (args last : Words) (one other : Word) → values args ≡ v.value_and (value one) (values last) → values last ≡ v.value_and (value other) (values L.Empty) → values_list args ≡ value one ∷ (value other ∷ [])
+two_values args last one other first second =
+    ap v.listed first ∙ (ap (λ vs. value one ∷ v.listed vs) second ∙ ap (λ vs. value one ∷ (value other ∷ v.listed vs)) empty_is)
 
 -- a block as the evaluator has it
 pub block_shown : (place : ℕ) (parts : Words) → v.Block place (packed (values_list parts)) ≡ value (W.Block place parts)
@@ -126,3 +141,16 @@ module _ (s : Setting Event) where
   -- a value that is there at once
   pub project_told : {F : Type 0} (before now : List Event) (r : Result Next F) (m : Mode) (run : Run Event Value) (v : Value) → run ≡ Done [] v → Nexts s before now r (finish Event s (mode_of m) v) → Nexts s before now r (finished s m run)
   project_told before now r m run v is h = told_as (next_run s) before now r _ _ (ap (λ x. x >>= finish Event s (mode_of m)) is ∙ after_none (finish Event s (mode_of m) v)) h
+
+  -- `@` applies its function to the two operands
+  pub concat_told : {F : Type 0} (before now : List Event) (r : Result Step F) (node : ℕ) (here : Here) (x y g : Value) (vs : List Value) → Some g ≡ s.top s.append → vs ≡ x ∷ (y ∷ []) → Steps s before now r (apply_run s node here vs g) → Steps s before now r (operands_run s node binary.Append here x y)
+  concat_told before now r node here x y g vs found both h =
+      told_as (step_run s) before now r _ _
+      (ap (λ o. or_stuck o >>= λ g. apply_run s node here (x ∷ (y ∷ [])) g) (sym found)
+      ∙ (after_none (apply_run s node here (x ∷ (y ∷ [])) g)
+      ∙ ap (λ us. apply_run s node here us g) (sym both))) h
+
+  -- another operator than `@`
+  pub other_operator : (node : ℕ) (o : BinOp) (here : Here) (x y : Value) → (o ≢ binary.Append) → operands_run s node o here x y ≡ operator Event s node o x y >>= finish Event s (mode_of here.mode)
+  other_operator node binary.Append here x y other = absurd (other refl)
+  other_operator node o here x y other = refl

@@ -163,11 +163,13 @@ fn operands<'t, 'a>(
 ) -> Result<Step<'a>, NoMemory>
     ensures { Steps (setting_of world.entry) told.old.items told.new.items result (operands_run (setting_of world.entry) node op here.entry (value one.entry) (value other.entry)) }
 {
-    if op == BinOp::Append {
-        return concatenate(world, told, node, one, other, here);
+    match op {
+        BinOp::Append => concatenate(world, told, node, one, other, here),
+        _ => {
+            let given = operator(world.tools, told, node, op, one, other)?;
+            Ok(go_on(finish_given(told, here.mode, given)?))
+        }
     }
-    let given = operator(world.tools, told, node, op, one, other)?;
-    Ok(go_on(finish_given(told, here.mode, given)?))
 }
 
 /// The negative of a number.

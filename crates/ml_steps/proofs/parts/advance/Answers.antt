@@ -3,8 +3,7 @@ use Rattle.ml_meaning.specs.declared.event.Event.{Event}
 use Rattle.ml_meaning.specs.Evaluation.{closure}
 use Rattle.ml_meaning.specs.Programs.{evaluate}
 use Rattle.ml_meaning.specs.Runs.{after, ◌>>=◌}
-use Rattle.ml_values.specs.Shown.{names, value, values_list}
-use Rattle.ml_steps.specs.declared.frame.Then.TheVariants as then
+use Rattle.ml_values.specs.Shown.{names, values_list}
 use Rattle.ml_steps.specs.Left.{calls_of, finish_run, part_run, parts_run, parts_runs}
 use Rattle.ml_steps.specs.Worlds.{setting_of}
 use Rattle.ml_steps.proofs.RunsParts.{part_more}

@@ -1,4 +1,3 @@
-use Rattle.std.proofs.Common.{◌≤◌, length}
 use Rattle.ml_steps.proofs.Arranging.{ThereFrom}
 use Rattle.ml_steps.proofs.parts.all_there.Given as goal
 

@@ -1,4 +1,4 @@
-use Rattle.std.proofs.Common.{[], ap, ◌∙◌}
+use Rattle.std.proofs.Common.{ap, ◌∙◌}
 use Rattle.ml_meaning.specs.declared.event.Event.{Event}
 use Rattle.ml_meaning.specs.Evaluation.{operation_result}
 use Rattle.ml_meaning.specs.Runs.{◌>>=◌}
