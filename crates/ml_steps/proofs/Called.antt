@@ -1,5 +1,5 @@
 -- How functions are made and called in the world of an item.
-use Rattle.std.proofs.Common.{◌≡◌, ◌≢◌, Bor, ℕ, zero, suc, ◌-◌, List, [], ◌∷◌, ◌++◌, Option, Some, None, refl, sym, ap, ap₂, ◌∙◌, arith}
+use Rattle.std.proofs.Common.{◌≡◌, ◌≢◌, Bor, ℕ, suc, ◌-◌, List, ◌++◌, Option, Some, None, refl, sym, ap, ap₂, ◌∙◌, arith}
 use Rattle.std.specs.Option.{option_map}
 use Rattle.ml_tree.specs.declared.expr.Expr.{Expr}
 use Rattle.ml_tree.specs.declared.reference.Op.{Op}
@@ -14,7 +14,7 @@ use Rattle.ml_meaning.specs.Functions.{FunctionCode}
 use Rattle.ml_meaning.specs.Operations.{operate}
 use Rattle.ml_meaning.specs.Patterns as p
 use Rattle.ml_meaning.specs.Programs.{bind_names, body_run, calls, code_run, own_name}
-use Rattle.ml_meaning.specs.Runs.{Run, Done, after, ◌>>=◌}
+use Rattle.ml_meaning.specs.Runs.{Run, after, ◌>>=◌}
 use Rattle.ml_meaning.specs.Tellings as t
 use Rattle.ml_meaning.specs.Tellings.{Setting, NoMatch, fail, or_stuck}
 use Rattle.ml_meaning.specs.Values as v
@@ -27,7 +27,7 @@ use Rattle.ml_values.specs.declared.value.Pair.{Pair}
 use Rattle.ml_values.specs.declared.value.Word.TheVariants as W
 use Rattle.ml_values.specs.declared.value.Words.{Words}
 use Rattle.ml_values.specs.declared.value.Words.TheVariants as L
-use Rattle.ml_values.specs.Shown.{code_of, names, value, values, values_list}
+use Rattle.ml_values.specs.Shown.{names, value, values, values_list}
 use Rattle.ml_values.specs.Telling.{closes, mode_of}
 use Rattle.ml_values.proofs.Layers.{empty_is, function_is}
 use Rattle.ml_values.proofs.Walks.{list_more}

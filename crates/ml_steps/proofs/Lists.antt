@@ -1,7 +1,6 @@
 -- Lists of values that are built from their end, and names that are bound one after the other.
-use Rattle.std.proofs.Common.{◌≡◌, Bor, ℕ, suc, ◌+◌, ◌<◌, ◌≤◌, List, [], ◌∷◌, ◌++◌, map, length, get_or, drop, Option, Some, None, Result, Ok, Err, IfOk, refl, sym, ap, ap₂, ◌∙◌, append_assoc, add-one, drop-cons}
+use Rattle.std.proofs.Common.{◌≡◌, Bor, ℕ, suc, ◌+◌, ◌<◌, ◌≤◌, List, [], ◌∷◌, ◌++◌, map, length, get_or, drop, Option, Some, None, Result, Ok, Err, IfOk, refl, sym, ap, ◌∙◌, append_assoc, add-one, drop-cons}
 use Rattle.std.specs.List.{push}
-use Rattle.std.specs.Option.{option_map}
 use Rattle.std.proofs.lemmas.List.{append-nil, drop_all, length-map, map-append}
 use Rattle.ml_meaning.specs.declared.event.Event.{Event}
 use Rattle.ml_meaning.specs.Evaluation as m
@@ -10,14 +9,14 @@ use Rattle.ml_meaning.specs.Patterns.{Env}
 use Rattle.ml_meaning.specs.Programs.{bind_names}
 use Rattle.ml_meaning.specs.Tellings.{Setting}
 use Rattle.ml_meaning.specs.Values.{Value, Values, no_values, value_and, packed, listed}
-use Rattle.ml_values.specs.declared.value.Pair.{Pair, out-Pair}
+use Rattle.ml_values.specs.declared.value.Pair.{Pair}
 use Rattle.ml_values.specs.declared.value.Word.{Word}
 use Rattle.ml_values.specs.declared.value.Word.TheOpen as w
 use Rattle.ml_values.specs.declared.value.Word.TheOpen.{Words-F}
 use Rattle.ml_values.specs.declared.value.Words.{Words, out-Words, roll-Words, roll-out-Words}
 use Rattle.ml_values.specs.declared.value.Words.TheVariants as L
 use Rattle.ml_values.specs.Shown.{value, values_list}
-use Rattle.ml_values.proofs.Walks.{list_end, list_more}
+use Rattle.ml_values.proofs.Walks.{list_end}
 
 pub packed-listed : (vs : Values) → packed (listed vs) ≡ vs
 packed-listed no_values = refl
@@ -56,9 +55,6 @@ module _ (s : Setting Event) where
   pub record Captures (captures left : List ℕ) (env : Env) (vs : List Value) : Type 0 where
     pub so_far : m.captured Event s captures env ≡ before_all (m.captured Event s left env) vs
 
-  pub captures_start : (captures : List ℕ) (env : Env) → Captures captures captures env []
-  captures_start captures env = record { so_far = sym (before-none (m.captured Event s captures env)) }
-
   pub captures_step : (captures left rest : List ℕ) (n : ℕ) (env : Env) (v : Value) (vs more : List Value) → left ≡ push rest n → Some v ≡ lookup n env → more ≡ v ∷ vs → Captures captures left env vs → Captures captures rest env more
   captures_step captures left rest n env v vs more is found longer g = record {
     so_far =
@@ -82,38 +78,12 @@ module _ (s : Setting Event) where
   here : {A : Type 0} (xs : List A) (i : ℕ) (x : A) → i < length xs → x ≡ get_or xs i x → drop i xs ≡ x ∷ drop (i + 1) xs
   here xs i x lt e = rw add-one (drop-cons xs i x lt ∙ ap (λ z. z ∷ drop (suc i) xs) (sym e))
 
-  pub binds_start : (ns : List ℕ) (vs : List Value) (before : Env) → Binds ns vs before 0 vs before
-  binds_start ns vs before = record { so_far = refl }
-
-  pub binds_step : (ns : List ℕ) (vs : List Value) (before : Env) (i n : ℕ) (v : Value) (left rest : List Value) (now more : Env) → i < length ns → n ≡ get_or ns i n → left ≡ v ∷ rest → more ≡ (n, v) ∷ now → Binds ns vs before i left now → Binds ns vs before (i + 1) rest more
-  binds_step ns vs before i n v left rest now more lt is parts longer g = record {
-    so_far =
-        g.so_far
-        ∙ (ap₂ (λ xs us. bind_names Event s xs us now) (here ns i n lt is) parts
-        ∙ ap (bind_names Event s (drop (i + 1) ns) rest) (sym longer));
-  }
-
   pub binds_end : (ns : List ℕ) (vs : List Value) (before : Env) (i : ℕ) (rest : List Value) (now : Env) → length ns ≤ i → Binds ns vs before i rest now → bind_names Event s ns vs before ≡ now
   binds_end ns vs before i rest now le g = g.so_far ∙ ap (λ xs. bind_names Event s xs rest now) (drop_all i ns le)
 
 -- these values, and those that are left, are all
 pub record Takes (taken : List Word) (rest : Words) (whole : List Value) : Type 0 where
   pub so_far : map value taken ++ values_list rest ≡ whole
-
-pub takes_start : (rest : Words) → Takes [] rest (values_list rest)
-takes_start rest = record { so_far = refl }
-
-pub takes_step : (taken more : List Word) (rest : Words) (r : Bor Pair) (whole : List Value) → rest ≡ L.And r → more ≡ push taken (out-Pair r.now).first → Takes taken rest whole → Takes more (out-Pair r.now).rest whole
-takes_step taken more rest r whole is longer g =
-    let w = (out-Pair r.now).first in
-    let left = values_list (out-Pair r.now).rest in
-    record {
-      so_far =
-          ap (λ ws. map value ws ++ left) longer
-          ∙ (ap (λ us. us ++ left) (map-append value taken (w ∷ []))
-          ∙ (append_assoc (map value taken) (value w ∷ []) left
-          ∙ (ap (λ us. map value taken ++ us) (sym (list_more rest r is)) ∙ g.so_far)));
-    }
 
 -- a list that begins with no value has none
 none_at : (rest : Words) → ((r : Bor Pair) → rest ≡ L.And r → ⊥) → (l : Words-F Word Words Pair) → roll-Words l ≡ rest → values_list rest ≡ []
@@ -140,9 +110,6 @@ takes_length taken first n is many = ap length (taken_alone taken first is) ∙ 
 -- the words that are left, before these values, are all
 pub record Befores (left : List Word) (vs whole : List Value) : Type 0 where
   pub so_far : map value left ++ vs ≡ whole
-
-pub befores_start : (list : List Word) (vs : List Value) → Befores list vs (map value list ++ vs)
-befores_start list vs = record { so_far = refl }
 
 pub befores_step : (left rest : List Word) (w : Word) (vs more whole : List Value) → left ≡ push rest w → more ≡ value w ∷ vs → Befores left vs whole → Befores rest more whole
 befores_step left rest w vs more whole is longer g = record {

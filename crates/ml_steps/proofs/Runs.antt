@@ -1,8 +1,8 @@
 -- Laws of runs, and how a run goes on from what was told and what is done next.
-use Rattle.std.proofs.Common.{◌≡◌, ℕ, List, [], ◌∷◌, ◌++◌, Option, Some, None, Result, Ok, Err, IfOk, refl, sym, ap, ◌∙◌, append_assoc}
+use Rattle.std.proofs.Common.{◌≡◌, List, [], ◌++◌, None, Result, Ok, Err, refl, sym, ap, ◌∙◌, append_assoc}
 use Rattle.std.proofs.lemmas.List.{append-nil}
 use Rattle.ml_meaning.specs.declared.event.Event.{Event}
-use Rattle.ml_meaning.specs.Runs.{Run, Done, Stop, Stopped, after, ◌>>=◌}
+use Rattle.ml_meaning.specs.Runs.{Run, Done, Stop, after, ◌>>=◌}
 use Rattle.ml_meaning.specs.Tellings.{Setting}
 use Rattle.ml_meaning.specs.Values.{Value}
 use Rattle.ml_steps.specs.declared.frame.Next.{Next}

@@ -124,7 +124,7 @@ module _ (s : Setting Event) where
   abbrev pub taken_run : Arm → Here → Env → Run Event Value → Run Event Value
   taken_run arm here env rest =
       m.guarded Event s (arm_meaning Event s arm).guard (calls_of here) (names env)
-        ((arm_meaning Event s arm).body (calls_of here) (mode_of here.mode) (names env)) rest
+      ((arm_meaning Event s arm).body (calls_of here) (mode_of here.mode) (names env)) rest
 
   -- what a function's own name stands for
   abbrev pub own_name_of : ℕ → Option ℕ → Values → p.Env

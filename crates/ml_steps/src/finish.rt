@@ -13,11 +13,7 @@ use oxml_base::NoMemory;
 
 /// The value is that of the whole expression: in tail position the region is closed and the call is
 /// left.
-pub fn finish<'a>(
-    told: &mut Vec<Event>,
-    mode: Mode,
-    word: Word<'a>,
-) -> Result<Next<'a>, NoMemory>
+pub fn finish<'a>(told: &mut Vec<Event>, mode: Mode, word: Word<'a>) -> Result<Next<'a>, NoMemory>
     ensures { Plainly (λ s. Nexts s told.old.items told.new.items result (t.finish Event s (mode_of mode) (value word.entry))) }
 {
     close(told, mode)?;

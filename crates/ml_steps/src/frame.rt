@@ -94,7 +94,11 @@ impl<'a> Parts<'a> {
         ensures { (s : Setting Event) → option_map (part_run s) result ≡ slice_get (parts_runs s self.entry) at }
     {
         match self {
-            Parts::One(only) => if at == 0 { Some(Part::Evaluate(only)) } else { None },
+            Parts::One(only) => if at == 0 {
+                Some(Part::Evaluate(only))
+            } else {
+                None
+            },
             Parts::Two(one, other) => match at {
                 0 => Some(Part::Evaluate(one)),
                 1 => Some(Part::Evaluate(other)),

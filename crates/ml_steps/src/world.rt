@@ -34,7 +34,9 @@ pub struct World<'t, 'a> {
 
 /// The number of the first declaration that is written.
 const WRITTEN: u32 = 7;
+
 const LIST: u32 = 5;
+
 const OPTION: u32 = 6;
 
 fn predefined_fields(decl: u32, place: u32) -> usize

@@ -1,4 +1,4 @@
-use Rattle.std.proofs.Common.{◌≡◌, ◌++◌, Result, Ok, Err, IfOk, List, map, ap, ◌∙◌}
+use Rattle.std.proofs.Common.{map, ap}
 use Rattle.ml_values.specs.Shown.{value, values_list}
 use Rattle.ml_steps.proofs.Lists.{joined_as, takes_end}
 use Rattle.ml_steps.proofs.calls.append.Goals as goal

@@ -1,7 +1,7 @@
-use Rattle.std.proofs.Common.{◌≡◌, ◌+◌, ◌-◌, ◌<◌, ◌≤◌, length, arith}
+use Rattle.std.proofs.Common.{◌≡◌, ◌+◌, ◌-◌, ◌<◌, length, arith}
 use Rattle.ml_meaning.specs.declared.event.Event.{Event}
 use Rattle.ml_meaning.specs.Evaluation as m
-use Rattle.ml_values.specs.Shown.{code_of, value, values, values_list}
+use Rattle.ml_values.specs.Shown.{code_of, values, values_list}
 use Rattle.ml_values.specs.Telling.{mode_of}
 use Rattle.ml_steps.specs.Left.{called_run, calls_of, partial_run}
 use Rattle.ml_steps.specs.Worlds.{setting_of}
@@ -35,5 +35,5 @@ returns c =
     steps_as s c.args.told.now.items c.apply_all.new.told.items c.apply_all.result
     (called_run s c.args.node c.args.here (values_list c.in_ok-both.both.rest) (code_of f.code) (values_list f.captured) (values_list c.in_ok-all.all)) _
     (calls_on s c.args.node (calls_of s c.args.here) (mode_of c.args.here.mode) c.args.function f.code f.captured f.held (values_list c.args.args) first (values_list c.in_ok-both.both.rest) (values_list c.in_ok-all.all)
-        f.is c.in_ok-both.ensures.parts some all c.in_ok-all.ensures)
+    f.is c.in_ok-both.ensures.parts some all c.in_ok-all.ensures)
     c.apply_all.ensures

@@ -14,6 +14,6 @@ returns-in_ok-next-in-And c =
     let told = c.args.told.now.items in
     ap (after told) (called_more s c.args.node c.args.here c.args.rest c.in-And.field-0 (code_of c.args.code) (values_list c.args.captured) (values_list c.args.all) c.in-And.is)
     ∙ step_then s told c.call-in-And.new.told.items c.go_on_then.result c.in_ok-next-in-And.next
-        (call_of s c.args.here.fuel mode.Inner (code_of c.args.code) (values_list c.args.captured) (values_list c.args.all))
-        (applied_run s c.args.node c.args.here (values_list c.args.rest))
-        c.in_ok-next-in-And.ensures (c.go_on_then.ensures s)
+    (call_of s c.args.here.fuel mode.Inner (code_of c.args.code) (values_list c.args.captured) (values_list c.args.all))
+    (applied_run s c.args.node c.args.here (values_list c.args.rest))
+    c.in_ok-next-in-And.ensures (c.go_on_then.ensures s)

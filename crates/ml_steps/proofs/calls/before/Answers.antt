@@ -1,6 +1,6 @@
-use Rattle.std.proofs.Common.{ap, map, ◌++◌}
+use Rattle.std.proofs.Common.{ap}
 use Rattle.ml_meaning.specs.Values.{listed}
-use Rattle.ml_values.specs.Shown.{value, values_list}
+use Rattle.ml_values.specs.Shown.{values_list}
 use Rattle.ml_steps.proofs.Lists.{befores_step, befores_end}
 use Rattle.ml_steps.proofs.calls.before.Goals as goal
 

@@ -10,5 +10,5 @@ returns-in-None c =
     let s = setting_of c.args.world in
     nexts_as s c.args.told.now.items c.failed.new.told.items c.failed.result _ _
     (no_match s c.args.function c.in-Single.e c.args.fuel (closed_env s c.args.node c.args.function.own c.args.function.captures.now (values_list c.args.captured)) (names c.in_ok-env.env) (values_list c.args.args) c.in_ok-env-in-Single.field-0
-        c.in-Single.is c.in-None.is c.in_ok-env-in-Single.ensures c.in_ok-env.ensures)
+    c.in-Single.is c.in-None.is c.in_ok-env-in-Single.ensures c.in_ok-env.ensures)
     (c.failed.ensures s.names s.fields s.code s.top s.append)

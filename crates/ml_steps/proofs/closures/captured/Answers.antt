@@ -2,7 +2,7 @@ use Rattle.std.proofs.Common.{ap}
 use Rattle.ml_meaning.specs.Values.{listed}
 use Rattle.ml_values.specs.Shown.{names, value, values_list}
 use Rattle.ml_steps.specs.Worlds.{setting_of}
-use Rattle.ml_steps.proofs.Lists.{captures_start, captures_step, captures_end}
+use Rattle.ml_steps.proofs.Lists.{captures_step, captures_end}
 use Rattle.ml_steps.proofs.closures.captured.Goals as goal
 
 pub loop-name-preserved : goal.loop-name-preserved

@@ -17,5 +17,5 @@ returns c =
     nexts_as s c.args.told.now.items c.finish.new.told.items c.finish.result _ _
     (closing_is s c.args.node c.args.captures.now c.args.here c.in_ok-words.words c.in_ok-words.ensures)
     (nexts_since s c.args.told.now.items c.tell_made.new.told.items c.finish.new.told.items c.finish.result (m.function_made Event s c.args.node c.args.captures.now)
-        (t.finish Event s (mode_of c.args.here.mode) (value (W.Function (C.Source c.args.node) c.in_ok-words.words L.Empty)))
-        (c.in_ok-tell_made.ensures s.names s.fields s.code s.top s.append) (c.finish.ensures s.names s.fields s.code s.top s.append))
+    (t.finish Event s (mode_of c.args.here.mode) (value (W.Function (C.Source c.args.node) c.in_ok-words.words L.Empty)))
+    (c.in_ok-tell_made.ensures s.names s.fields s.code s.top s.append) (c.finish.ensures s.names s.fields s.code s.top s.append))

@@ -1,4 +1,4 @@
-use Rattle.std.proofs.Common.{sym, ap, ◌∙◌}
+use Rattle.std.proofs.Common.{sym, ap}
 use Rattle.std.specs.Option.{option_map}
 use Rattle.ml_functions.specs.Table.{code_of}
 use Rattle.ml_steps.specs.Worlds.{setting_of}
