@@ -44,19 +44,19 @@ module _ (s : Setting Event) (fuel : ℕ) where
       ap (λ r. r >>= λ vs. bound_run s a fuel >>= λ v. Done [] (v ∷ vs)) (values_last bs b)
       ∙ (bind_bind (bound_run s b fuel) (λ v. values_onto s bs fuel (v ∷ [])) (λ vs. bound_run s a fuel >>= λ v. Done [] (v ∷ vs))
       ∙ bind_as (bound_run s b fuel) _ _ (λ v.
-          bind_bind (values_run s bs fuel) (λ us. Done [] (us ++ (v ∷ []))) (λ vs. bound_run s a fuel >>= λ x. Done [] (x ∷ vs))
-          ∙ (bind_as (values_run s bs fuel) _ _ (λ us.
-              after_nil (bound_run s a fuel >>= λ x. Done [] (x ∷ (us ++ (v ∷ []))))
-              ∙ sym (bind_bind (bound_run s a fuel) (λ x. Done [] (x ∷ us)) (λ ws. Done [] (ws ++ (v ∷ [])))))
-          ∙ sym (bind_bind (values_run s bs fuel) (λ us. bound_run s a fuel >>= λ x. Done [] (x ∷ us)) (λ ws. Done [] (ws ++ (v ∷ [])))))))
+      bind_bind (values_run s bs fuel) (λ us. Done [] (us ++ (v ∷ []))) (λ vs. bound_run s a fuel >>= λ x. Done [] (x ∷ vs))
+      ∙ (bind_as (values_run s bs fuel) _ _ (λ us.
+      after_nil (bound_run s a fuel >>= λ x. Done [] (x ∷ (us ++ (v ∷ []))))
+      ∙ sym (bind_bind (bound_run s a fuel) (λ x. Done [] (x ∷ us)) (λ ws. Done [] (ws ++ (v ∷ [])))))
+      ∙ sym (bind_bind (values_run s bs fuel) (λ us. bound_run s a fuel >>= λ x. Done [] (x ∷ us)) (λ ws. Done [] (ws ++ (v ∷ [])))))))
 
   onto_last : (bs : List Bind) (b : Bind) (there : List Value) → values_onto s (bs ++ (b ∷ [])) fuel there ≡ bound_run s b fuel >>= λ v. values_onto s bs fuel (v ∷ there)
   onto_last bs b there =
       ap (λ r. r >>= λ vs. Done [] (vs ++ there)) (values_last bs b)
       ∙ (bind_bind (bound_run s b fuel) (λ v. values_onto s bs fuel (v ∷ [])) (λ vs. Done [] (vs ++ there))
       ∙ bind_as (bound_run s b fuel) _ _ (λ v.
-          bind_bind (values_run s bs fuel) (λ us. Done [] (us ++ (v ∷ []))) (λ vs. Done [] (vs ++ there))
-          ∙ bind_as (values_run s bs fuel) _ _ (λ us. ap (λ l. Done [] l) (append_assoc us (v ∷ []) there))))
+      bind_bind (values_run s bs fuel) (λ us. Done [] (us ++ (v ∷ []))) (λ vs. Done [] (vs ++ there))
+      ∙ bind_as (values_run s bs fuel) _ _ (λ us. ap (λ l. Done [] l) (append_assoc us (v ∷ []) there))))
 
   -- ---- the loop over the bindings
 

@@ -1,7 +1,6 @@
 pub mod Bindings
 pub mod Layers
 pub mod Runs
-pub mod Settings
 pub mod Stacks
 pub mod Tops
 pub mod Wholes

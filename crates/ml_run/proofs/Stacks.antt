@@ -49,7 +49,7 @@ module _ (s : Setting Event) where
   -- ---- one turn
 
   -- the step of what was done next
-  stepped : (before now : List Event) (old new : List Frame) (next : Next) (step : Step) (more : Option Next) → Tells before now (next_run s next) (step_run s step) → Pushed s step old new more → Turned s before now old new next more
+  stepped : (before now : List Event) (old new : List Frame) (next : Next) (step : Step) (more : Option Next) → Tells before now (next_run s next) (step_run s step) → Pushed step old new more → Turned s before now old new next more
   stepped before now old new next step None h (is, e) = cc
   stepped before now old new next step (Some more) h (is, e) =
       stacked_tells before now old (next_run s next) (step_run s step) h
@@ -64,7 +64,7 @@ module _ (s : Setting Event) where
       ∙ ap (λ l. after now (left_run s l more)) (sym e))
 
   -- a value went to the last frame
-  gave : (before now : List Event) (old rest new : List Frame) (f : Frame) (word : Word) (step : Step) (more : Option Next) → old ≡ rest ++ (f ∷ []) → Tells before now (then_run s f.then f.here (value word)) (step_run s step) → Pushed s step rest new more → Turned s before now old new (n.Give word) more
+  gave : (before now : List Event) (old rest new : List Frame) (f : Frame) (word : Word) (step : Step) (more : Option Next) → old ≡ rest ++ (f ∷ []) → Tells before now (then_run s f.then f.here (value word)) (step_run s step) → Pushed step rest new more → Turned s before now old new (n.Give word) more
   gave before now old rest new f word step None parts h (is, e) = cc
   gave before now old rest new f word step (Some more) parts h (is, e) =
       ap (λ l. after before (left_run s l (n.Give word))) parts
@@ -84,12 +84,12 @@ module _ (s : Setting Event) where
 
   -- ---- the answers of a turn
 
-  pub stepped_answer : {F : Type 0} (before now : List Event) (old new : List Frame) (next at : Next) (step : Step) (r : Result (Option Next) F) → next ≡ at → Tells before now (next_run s at) (step_run s step) → IfOk r (Pushed s step old new) → IfOk r (Turned s before now old new next)
+  pub stepped_answer : {F : Type 0} (before now : List Event) (old new : List Frame) (next at : Next) (step : Step) (r : Result (Option Next) F) → next ≡ at → Tells before now (next_run s at) (step_run s step) → IfOk r (Pushed step old new) → IfOk r (Turned s before now old new next)
   stepped_answer before now old new next at step (Err e) is h p = tt
   stepped_answer before now old new next at step (Ok more) is h p =
       stepped before now old new next step more (ap (λ n. after before (next_run s n)) is ∙ h) p
 
-  pub gave_answer : {F : Type 0} (before now : List Event) (old rest new : List Frame) (f : Frame) (word : Word) (step : Step) (r : Result (Option Next) F) → old ≡ rest ++ (f ∷ []) → Tells before now (then_run s f.then f.here (value word)) (step_run s step) → IfOk r (Pushed s step rest new) → IfOk r (Turned s before now old new (n.Give word))
+  pub gave_answer : {F : Type 0} (before now : List Event) (old rest new : List Frame) (f : Frame) (word : Word) (step : Step) (r : Result (Option Next) F) → old ≡ rest ++ (f ∷ []) → Tells before now (then_run s f.then f.here (value word)) (step_run s step) → IfOk r (Pushed step rest new) → IfOk r (Turned s before now old new (n.Give word))
   gave_answer before now old rest new f word step (Err e) parts h p = tt
   gave_answer before now old rest new f word step (Ok more) parts h p = gave before now old rest new f word step more parts h p
 
@@ -101,7 +101,7 @@ module _ (s : Setting Event) where
   pub turned_more : (a o p before now : List Event) (old new : List Frame) (first next more : Next) → Tells a o (next_run s first) (left_run s old next) → before ≡ [] → Turned s before now old new next (Some more) → p ≡ o ++ now → Tells a p (next_run s first) (left_run s new more)
   turned_more a o p before now old new first next more h none turned e =
       let here : left_run s old next ≡ after now (left_run s new more) =
-          sym (after_nil (left_run s old next)) ∙ (ap (λ l. after l (left_run s old next)) (sym none) ∙ turned) in
+      sym (after_nil (left_run s old next)) ∙ (ap (λ l. after l (left_run s old next)) (sym none) ∙ turned) in
       tells_told a o p now (next_run s first) (left_run s new more) (h ∙ ap (after o) here) e
 
   turned_none : (a o before now : List Event) (old new : List Frame) (first next : Next) (run : Run Event Value) → Tells a o (next_run s first) (left_run s old next) → Turned s before now old new next None → next_run s next ≡ run → Tells a o (next_run s first) run

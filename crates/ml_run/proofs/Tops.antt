@@ -2,11 +2,13 @@
 use Rattle.std.proofs.Common.{◌≡◌, ◌≢◌, ℕ, zero, suc, ◌<◌, ◌-◌, ◌==◌, List, [], ◌∷◌, ◌++◌, length, map, take, Option, Some, None, slice_get, if◌then◌else◌, refl, sym, ap, ◌∙◌, arith, inl, inr}
 use Rattle.std.proofs.Math.ListN.{replicate, set}
 use Rattle.std.proofs.lemmas.Bool.{cases_eq}
+use Rattle.std.proofs.lemmas.List.{append_assoc}
 use Rattle.ml_meaning.specs.Names.{lookup}
 use Rattle.ml_meaning.specs.Patterns.{Env}
 use Rattle.ml_meaning.specs.Values.{Value}
+use Rattle.ml_values.specs.declared.value.Env.{Env as Names}
 use Rattle.ml_values.specs.declared.value.Word.{Word}
-use Rattle.ml_values.specs.Shown.{value}
+use Rattle.ml_values.specs.Shown.{names, value}
 use Rattle.ml_steps.specs.Worlds.{top_value}
 use Rattle.ml_run.specs.declared.items.Top.{Top}
 use Rattle.ml_run.specs.Whole.{Holds, tops_of}
@@ -39,10 +41,24 @@ lookup_there n k v env ne = grind arith
 pub holds_set : (tops : List (Option Word)) (n : ℕ) (word : Word) (env : Env) → n < length tops → Holds tops env → Holds (set tops n (Some word)) ((n, value word) ∷ env)
 holds_set tops n word env h holds k =
     elim (cases_eq n k) [
-      inl e ↦ ap (λ j. top_value (slice_get (set tops n (Some word)) j)) (sym e) ∙ (ap top_value (set_here tops n (Some word) h) ∙ sym (lookup_here n k (value word) env e))
+      | inl e ↦ ap (λ j. top_value (slice_get (set tops n (Some word)) j)) (sym e) ∙ (ap top_value (set_here tops n (Some word) h) ∙ sym (lookup_here n k (value word) env e))
       | inr ne ↦ ap top_value (set_there tops n k (Some word) ne) ∙ (holds k ∙ sym (lookup_there n k (value word) env ne))
     ]
 
-pub tops_last : (list : List Top) (t : Top) → tops_of (list ++ (t ∷ [])) ≡ tops_of list ++ ((t.name, value t.word) ∷ [])
+tops_last : (list : List Top) (t : Top) → tops_of (list ++ (t ∷ [])) ≡ tops_of list ++ ((t.name, value t.word) ∷ [])
 tops_last [] t = refl
 tops_last (u ∷ us) t = ap (λ l. (u.name, value u.word) ∷ l) (tops_last us t)
+
+-- The names behind those of the list were set, over whatever stood there before.
+abbrev pub SetBehind : List Top → Names → List (Option Word) → List (Option Word) → Type 0
+SetBehind list env old new = (set : Env) × ((tops_of list ++ set ≡ names env) × ((before : Env) → Holds old before → Holds new (set ++ before)))
+
+-- the last name of the list was set
+pub set_more : (list rest : List Top) (t : Top) (env : Names) (old tops new : List (Option Word)) → list ≡ rest ++ (t ∷ []) → SetBehind list env old tops → ((before : Env) → Holds tops before → Holds new ((t.name, value t.word) ∷ before)) → SetBehind rest env old new
+set_more list rest t env old tops new parts (set, (all, by)) one = (
+  (t.name, value t.word) ∷ set,
+  (
+    sym (append_assoc (tops_of rest) ((t.name, value t.word) ∷ []) set) ∙ (ap (λ l. l ++ set) (sym (tops_last rest t) ∙ ap tops_of (sym parts)) ∙ all),
+    λ before h. one (set ++ before) (by before h),
+  ),
+)

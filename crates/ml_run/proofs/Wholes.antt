@@ -35,7 +35,7 @@ answer_after es (Stop fs end) = refl
 ran_answer : {A : Type 0} (a b : List Event) (r q : Run Event A) (end : Ending) → Tells a b r q → answer q ≡ ([], Ended end) → Ran a b end (answer r)
 ran_answer a b r q end h e =
     let same : (a ++ (answer r).0, (answer r).1) ≡ (b ++ [], Ended end) =
-        sym (answer_after a r) ∙ (ap answer h ∙ (answer_after b q ∙ ap (λ p. (b ++ p.0, p.1)) e)) in
+    sym (answer_after a r) ∙ (ap answer h ∙ (answer_after b q ∙ ap (λ p. (b ++ p.0, p.1)) e)) in
     (sym (append-nil b) ∙ sym (ap (λ p. p.0) same), ap (λ p. p.1) same)
 
 pub ran_all : (a b : List Event) (r : Run Event Env) (xs : Env) → Tells a b r (Done [] xs) → Ran a b (ending.Exit 0) (answer r)
@@ -112,8 +112,8 @@ module _ (s : Scoped) (fuel : ℕ) where
   went_end a o n tops set items i it end less is (env, (holds, h)) (Some last) at g =
       let P : Ending → Type 0 = λ e. Ran a n e (answer whole) in
       subst P (some_same last end at) (
-        ran_end a n whole last
-        (here a o items i it env less is h ∙ tells_bind o n (item_run it env) (Stop [] (Ended last)) (λ xs. items_from s fuel (drop (i + 1) items) (xs ++ env)) g)
+      ran_end a n whole last
+      (here a o items i it env less is h ∙ tells_bind o n (item_run it env) (Stop [] (Ended last)) (λ xs. items_from s fuel (drop (i + 1) items) (xs ++ env)) g)
       )
 
   pub went_began : (a o n : List Event) (tops : List (Option Word)) (items : List Item) (i : ℕ) (it : Item) → i < length items → it ≡ get_or items i it → (w : Went s fuel a o tops (drop i items)) → Began o n (item_run it w.0) → Begins n (a ++ (answer whole).0)

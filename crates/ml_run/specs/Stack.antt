@@ -30,6 +30,10 @@ Tells before now run rest = after before run ≡ after now rest
 abbrev pub Began : {A : Type 0} → List Event → List Event → Run Event A → Type 0
 Began before now run = Begins now (before ++ trace run)
 
+-- the frame of a step is the last now, and what the step goes on with is done next
+abbrev pub Pushed : Step → List Frame → List Frame → Option Next → Type 0
+Pushed step old new more = (more ≡ Some step.next) × (new ≡ old ++ option_to_list step.frame)
+
 module _ (s : Setting Event) where
   abbrev pub frame_then : Frame → Value → Run Event Value
   frame_then f v = then_run s f.then f.here v
@@ -42,10 +46,6 @@ module _ (s : Setting Event) where
   -- what is left to do of an evaluation
   abbrev pub left_run : List Frame → Next → Run Event Value
   left_run frames next = stacked frames (next_run s next)
-
-  -- the frame of a step is the last now, and what the step goes on with is done next
-  abbrev pub Pushed : Step → List Frame → List Frame → Option Next → Type 0
-  Pushed step old new more = (more ≡ Some step.next) × (new ≡ old ++ option_to_list step.frame)
 
   -- one turn: what is done next after it; with none the evaluation was at its end
   abbrev pub Turned : List Event → List Event → List Frame → List Frame → Next → Option Next → Type 0

@@ -21,7 +21,7 @@ pub enum Evaluated<'a> {
 
 /// The frame of a step goes onto the stack.
 fn pushed<'a>(frames: &mut Vec<Frame<'a>>, step: Step<'a>) -> Result<Option<Next<'a>>, NoMemory>
-    ensures { (s : Setting Event) → IfOk result (Pushed s step.entry frames.old.items frames.new.items) }
+    ensures { IfOk result (Pushed step.entry frames.old.items frames.new.items) }
 {
     if let Some(frame) = step.frame {
         frames.push(frame)?;

@@ -64,11 +64,7 @@ fn advance<'a>(
 }
 
 /// Evaluates the items of a program in order.
-fn run_items<'a>(
-    tables: Tables<'a>,
-    fuel: u64,
-    out: &mut Vec<Event>,
-) -> Result<Ending, NoMemory>
+fn run_items<'a>(tables: Tables<'a>, fuel: u64, out: &mut Vec<Event>) -> Result<Ending, NoMemory>
     ensures ended { (s : Program) → IsProgram s tables.entry → IfOk result (λ ending. Ran out.old.items out.new.items ending (answer (items_from s fuel s.program.items []))) }
     ensures out { (s : Program) → IsProgram s tables.entry → Begins out.new.items (out.old.items ++ (answer (items_from s fuel s.program.items [])).0) }
 {
@@ -102,12 +98,7 @@ fn run_in<'a>(
 /// The body of a call has one unit of fuel less than the call, and `More` comes where a call is due
 /// and none is left. After `NoMemory` the first events of the trace were appended. A program that is
 /// not well typed may end so too.
-pub fn run(
-    alloc: Global,
-    s: &Scoped,
-    fuel: u64,
-    out: &mut Vec<Event>,
-) -> Result<Ending, NoMemory>
+pub fn run(alloc: Global, s: &Scoped, fuel: u64, out: &mut Vec<Event>) -> Result<Ending, NoMemory>
     ensures ended { IfOk result (λ ending. Ran out.old.items out.new.items ending (eval fuel s.now)) }
     ensures out { Begins out.new.items (out.old.items ++ (eval fuel s.now).0) }
 {

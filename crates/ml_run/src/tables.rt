@@ -83,11 +83,7 @@ fn first_binder(kind: &ItemKind) -> u32
 }
 
 /// The tables of a program, in the arena.
-pub fn tabulated<'a>(
-    alloc: Global,
-    bump: &'a Bump,
-    s: &'a Scoped,
-) -> Result<Tables<'a>, NoMemory>
+pub fn tabulated<'a>(alloc: Global, bump: &'a Bump, s: &'a Scoped) -> Result<Tables<'a>, NoMemory>
     ensures { IfOk result (IsProgram s.entry.now) }
 {
     let functions = functions(alloc, bump, s)?;

@@ -6,7 +6,7 @@ use Rattle.ml_run.proofs.evaluate.turn.Goals as goal
 
 pub returns-in_ok-step-in-Visit : goal.returns-in_ok-step-in-Visit
 returns-in_ok-step-in-Visit c =
-    stepped_answer (setting_of c.args.world) _ _ _ _ c.args.next (next.Visit c.in-Visit.e c.in-Visit.here) c.in_ok-step-in-Visit.step _ c.in-Visit.is c.in_ok-step-in-Visit.ensures (c.pushed.ensures (setting_of c.args.world))
+    stepped_answer (setting_of c.args.world) _ _ _ _ c.args.next (next.Visit c.in-Visit.e c.in-Visit.here) c.in_ok-step-in-Visit.step _ c.in-Visit.is c.in_ok-step-in-Visit.ensures c.pushed.ensures
 
 pub returns-in_ok-closure-in-Close : goal.returns-in_ok-closure-in-Close
 returns-in_ok-closure-in-Close c =
@@ -14,7 +14,7 @@ returns-in_ok-closure-in-Close c =
 
 pub returns-in_ok-step-in-Choose : goal.returns-in_ok-step-in-Choose
 returns-in_ok-step-in-Choose c =
-    stepped_answer (setting_of c.args.world) _ _ _ _ c.args.next (next.Choose c.in-Choose.arms c.in-Choose.word c.in-Choose.here) c.in_ok-step-in-Choose.step _ c.in-Choose.is c.in_ok-step-in-Choose.ensures (c.pushed-in-Choose.ensures (setting_of c.args.world))
+    stepped_answer (setting_of c.args.world) _ _ _ _ c.args.next (next.Choose c.in-Choose.arms c.in-Choose.word c.in-Choose.here) c.in_ok-step-in-Choose.step _ c.in-Choose.is c.in_ok-step-in-Choose.ensures c.pushed-in-Choose.ensures
 
 pub returns-in-Stop : goal.returns-in-Stop
 returns-in-Stop c = stopped_at (setting_of c.args.world) _ c.args.frames.now.items c.args.frames.now.items c.args.next c.in-Stop.field-0 c.in-Stop.is
