@@ -177,8 +177,8 @@ filled_more s fields start i f place word rest more slots after less is at first
     let next : suc i ≡ i + 1 = omega arith in
     let behind = m.paired Event s (drop (i + 1) (places_of s fields)) (values_list more) in
     let split : m.paired Event s (drop i (places_of s fields)) (values_list rest) ≡ (place, value word) ∷ behind =
-        ap (λ ks. m.paired Event s ks (values_list rest)) (drop_field s fields i f less is ∙ (ap (λ j. field_place s.names f.id ∷ drop j (places_of s fields)) next ∙ ap (λ k. k ∷ drop (i + 1) (places_of s fields)) at))
-        ∙ ap (λ vs. m.paired Event s (Some place ∷ drop (i + 1) (places_of s fields)) vs) first in
+    ap (λ ks. m.paired Event s ks (values_list rest)) (drop_field s fields i f less is ∙ (ap (λ j. field_place s.names f.id ∷ drop j (places_of s fields)) next ∙ ap (λ k. k ∷ drop (i + 1) (places_of s fields)) at))
+    ∙ ap (λ vs. m.paired Event s (Some place ∷ drop (i + 1) (places_of s fields)) vs) first in
     let longer : length (m.paired Event s (drop i (places_of s fields)) (values_list rest)) ≡ suc (length behind) = ap length split in
     let all = g.count in
     record {
@@ -198,7 +198,7 @@ filled_end s fields start i rest slots words all g there =
     let none_left : length (m.paired Event s (drop i (places_of s fields)) (values_list rest)) ≡ 0 = ap length none in
     let as_many : length fields ≡ length pairs = omega (arith, all, fits, count, none_left) in
     let shows : shown slots ≡ map (λ k. lookup k pairs) (range_with_len 0 (length pairs)) =
-        sym (ap (λ ps. filled_by (shown slots) ps) none) ∙ (g.fill ∙ (all_filled pairs (length fields) ∙ ap (λ n. map (λ k. lookup k pairs) (range_with_len 0 n)) as_many)) in
+    sym (ap (λ ps. filled_by (shown slots) ps) none) ∙ (g.fill ∙ (all_filled pairs (length fields) ∙ ap (λ n. map (λ k. lookup k pairs) (range_with_len 0 n)) as_many)) in
     ap (m.all_there Event s) (sym shows) ∙ there
 
 pub arranged_there : {F : Type 0} (s : Setting Event) (fields : List FieldExpr) (start : List Value) (i : ℕ) (rest : Words) (slots there : List (Option Word)) (r : Result Words F) →

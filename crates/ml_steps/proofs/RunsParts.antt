@@ -59,10 +59,10 @@ module _ (s : Setting Event) where
       then_then (values Event s (xs ++ (m ∷ [])) c env) (λ vs. x c Inner env >>= λ v. Done [] (v ∷ vs)) k
       ∙ (values_last xs m c env (λ vs. (x c Inner env >>= λ v. Done [] (v ∷ vs)) >>= k)
       ∙ then_same (m c Inner env) _ _ (λ w.
-          then_same (values Event s xs c env) _ _ (λ us.
-              then_then (x c Inner env) (λ v. Done [] (v ∷ (us ++ (w ∷ [])))) k
-              ∙ sym (then_then (x c Inner env) (λ v. Done [] (v ∷ us)) (λ vs. k (vs ++ (w ∷ [])))))
-          ∙ sym (then_then (values Event s xs c env) (λ us. x c Inner env >>= λ v. Done [] (v ∷ us)) (λ vs. k (vs ++ (w ∷ []))))))
+      then_same (values Event s xs c env) _ _ (λ us.
+      then_then (x c Inner env) (λ v. Done [] (v ∷ (us ++ (w ∷ [])))) k
+      ∙ sym (then_then (x c Inner env) (λ v. Done [] (v ∷ us)) (λ vs. k (vs ++ (w ∷ [])))))
+      ∙ sym (then_then (values Event s xs c env) (λ us. x c Inner env >>= λ v. Done [] (v ∷ us)) (λ vs. k (vs ++ (w ∷ []))))))
 
   -- one part more is evaluated, and those before it follow
   pub part_more : {B : Type 0} (ms : List (Meaning Event)) (left : ℕ) (m : Meaning Event) (c : Call Event) (env : Env) (k : List Value → Run Event B) (done : List Value) →
@@ -74,7 +74,7 @@ module _ (s : Setting Event) where
       ∙ (ap (λ xs. values Event s xs c env >>= (λ us. k (us ++ done))) (take_last ms (left - 1) m is)
       ∙ (values_last (take (left - 1) ms) m c env (λ us. k (us ++ done))
       ∙ then_same (m c Inner env) _ _ (λ v.
-          then_same (values Event s (take (left - 1) ms) c env) _ _ (λ us. ap k (append_assoc us (v ∷ []) done)))))
+      then_same (values Event s (take (left - 1) ms) c env) _ _ (λ us. ap k (append_assoc us (v ∷ []) done)))))
 
   -- all parts are there
   pub parts_there : {B : Type 0} (ms : List (Meaning Event)) (left : ℕ) (c : Call Event) (env : Env) (k : List Value → Run Event B) (done : List Value) →

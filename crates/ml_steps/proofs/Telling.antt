@@ -99,7 +99,7 @@ module _ (s : Setting Event) where
       Nexts s before now r (fail Event s NoMatch) → Nexts s before now r (bound_run s bs body here vs)
   unbound before now r bs body here vs found fit none h =
       told_as (next_run s) before now r _ _ (ap (λ o. matched Event s o (λ xs. evaluate Event s body (calls_of s here) (mode_of here.mode) (xs ++ names here.env)))
-        (none_onto (names here.env) (all_fit (bind_fits s.names bs) vs) (sym (ap (option_map names) none) ∙ fit))) h
+      (none_onto (names here.env) (all_fit (bind_fits s.names bs) vs) (sym (ap (option_map names) none) ∙ fit))) h
 
   -- an operation on as many arguments as it takes, and what is done with those that are left
   pub operated_parts : {X F : Type 0} (mean : X → Run Event Value) (before mid now : List Event) (r : Result X F) (node : ℕ) (o : Op) (here : Here) (first rest vs : List Value) (given : Run Event Value) →
@@ -107,10 +107,10 @@ module _ (s : Setting Event) where
       Told mean mid now r (given >>= operation_result Event s (mode_of here.mode) rest) → Told mean before now r (operated s node o here vs)
   operated_parts mean before mid now r node o here first rest vs given both count gives h =
       let halves : operated s node o here vs ≡ operate Event s (Some node) o first >>= operation_result Event s (mode_of here.mode) rest =
-          ap (operated s node o here) (sym both)
-          ∙ (ap (λ n. operate Event s (Some node) o (take n (first ++ rest)) >>= operation_result Event s (mode_of here.mode) (drop n (first ++ rest))) (sym count)
-          ∙ (ap (λ xs. operate Event s (Some node) o xs >>= operation_result Event s (mode_of here.mode) (drop (length first) (first ++ rest))) (take-append_seam first rest)
-          ∙ ap (λ xs. operate Event s (Some node) o first >>= operation_result Event s (mode_of here.mode) xs) (drop-append_seam first rest))) in
+      ap (operated s node o here) (sym both)
+      ∙ (ap (λ n. operate Event s (Some node) o (take n (first ++ rest)) >>= operation_result Event s (mode_of here.mode) (drop n (first ++ rest))) (sym count)
+      ∙ (ap (λ xs. operate Event s (Some node) o xs >>= operation_result Event s (mode_of here.mode) (drop (length first) (first ++ rest))) (take-append_seam first rest)
+      ∙ ap (λ xs. operate Event s (Some node) o first >>= operation_result Event s (mode_of here.mode) xs) (drop-append_seam first rest))) in
       told_as mean before now r _ _ halves (told_given mean before mid now r (operate Event s (Some node) o first) given (operation_result Event s (mode_of here.mode) rest) gives h)
 
   pub over_told : {F : Type 0} (now : List Event) (r : Result Next F) (given : Run Event Value) → IfOk r (λ next. (s : Setting Event) → next_run s next ≡ over_applied_run s given) → Nexts s now now r (over_applied_run s given)

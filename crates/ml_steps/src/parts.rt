@@ -218,14 +218,16 @@ pub fn complete<'t, 'a>(
 {
     match last {
         Finish::Build(node, place) => Ok(go_on(build(told, node, place, parts, here)?)),
-        Finish::Record(node, fields) => Ok(
-            go_on(build_record(world, told, node, fields, parts, here)?),
-        ),
+        Finish::Record(node, fields) => Ok(go_on(build_record(
+            world, told, node, fields, parts, here,
+        )?)),
         Finish::Operate(node, op) => Ok(go_on(operate_parts(world, told, node, op, parts, here)?)),
-        Finish::Apply(node, function) => Ok(evaluate_then(function, Then::Callee(node, parts), here)),
-        Finish::Bind(binds, body) => Ok(
-            go_on(bind_parts(world, told, binds, body, parts, here)?),
-        ),
+        Finish::Apply(node, function) => Ok(evaluate_then(
+            function,
+            Then::Callee(node, parts),
+            here,
+        )),
+        Finish::Bind(binds, body) => Ok(go_on(bind_parts(world, told, binds, body, parts, here)?)),
         Finish::Overwrite(node, place) => Ok(go_on(overwrite(told, node, place, parts, here)?)),
     }
 }

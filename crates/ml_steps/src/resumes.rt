@@ -181,11 +181,7 @@ fn negate<'a>(told: &mut Vec<Event>, word: Word<'a>, here: Here<'a>) -> Result<N
 }
 
 /// The call is left whose region was closed before.
-fn leave_call<'a>(
-    told: &mut Vec<Event>,
-    weight: u64,
-    word: Word<'a>,
-) -> Result<Next<'a>, NoMemory>
+fn leave_call<'a>(told: &mut Vec<Event>, weight: u64, word: Word<'a>) -> Result<Next<'a>, NoMemory>
     ensures { Plainly (λ s. Nexts s told.old.items told.new.items result (Done (Leave weight ∷ []) (value word.entry))) }
 {
     leave(told, Mode::Last(weight))?;
