@@ -1,5 +1,5 @@
 -- The values and the names that the bindings of an item bind, step by step, and the item around them.
-use Rattle.std.proofs.Common.{◌≡◌, ℕ, Bool, List, [], ◌∷◌, ◌++◌, Result, Ok, Err, IfOk, map, refl, sym, ap, subst, ◌∙◌}
+use Rattle.std.proofs.Common.{◌≡◌, ℕ, Bool, List, [], ◌∷◌, ◌++◌, Result, Ok, Err, IfOk, refl, sym, ap, subst, ◌∙◌}
 use Rattle.std.proofs.lemmas.List.{append-nil, append_assoc}
 use Rattle.ml_tree.specs.declared.expr.Bind.{Bind}
 use Rattle.ml_tree.specs.declared.program.ItemKind.{ItemKind}
@@ -26,7 +26,7 @@ use Rattle.ml_run.specs.declared.items.Several.TheVariants as S
 use Rattle.ml_run.specs.declared.items.Matched.{Matched}
 use Rattle.ml_run.specs.declared.items.Matched.TheVariants as M
 use Rattle.ml_run.specs.Stack.{Began, Tells, bound_run, evaluated_run, fitted_run, matched_run, several_run, values_onto, values_run}
-use Rattle.ml_run.proofs.Runs.{after_nil, after_after, bind_bind, bind_as, tells_bind, tells_value, tells_told, tells_on, began_bind, began_told, tells_from}
+use Rattle.ml_run.proofs.Runs.{after_nil, bind_bind, bind_as, tells_bind, tells_value, tells_told, tells_on, began_bind, began_told, tells_from}
 
 unpadded : (r : Run Event (List Value)) → r >>= (λ vs. Done [] (vs ++ [])) ≡ r
 unpadded (Done es vs) = ap (λ l. Done l (vs ++ [])) (append-nil es) ∙ ap (λ l. Done es l) (append-nil vs)

@@ -1,13 +1,11 @@
 -- What a binding means, and the patterns of bindings.
-use Rattle.std.proofs.Common.{◌≡◌, ℕ, List, [], ◌∷◌, ◌++◌, map, Option, Some, None, refl, sym, ap, ◌∙◌}
+use Rattle.std.proofs.Common.{◌≡◌, ℕ, List, [], ◌∷◌, map, Option, Some, None, refl, sym, ap, ◌∙◌}
 use Rattle.std.specs.Option.{option_map}
-use Rattle.ml_tree.specs.declared.expr.Bind.{Bind, out-Bind, fold_out-Bind}
+use Rattle.ml_tree.specs.declared.expr.Bind.{Bind, fold_out-Bind}
 use Rattle.ml_meaning.specs.declared.event.Event.{Event}
 use Rattle.ml_meaning.specs.Evaluation.{ExprMeaning, ArmMeaning, BindMeaning, step}
-use Rattle.ml_meaning.specs.Names.{References}
 use Rattle.ml_meaning.specs.Patterns as p
 use Rattle.ml_meaning.specs.Programs.{arm_step, bind_step, expr_step, field_step, bind_meaning, bound}
-use Rattle.ml_meaning.specs.Runs.{Run}
 use Rattle.ml_meaning.specs.Tellings.{Meaning, NoMatch, Setting, fail}
 use Rattle.ml_meaning.specs.Values.{Value}
 use Rattle.ml_matching.specs.Fitting.{bind_fits, onto}

@@ -1,5 +1,5 @@
 -- The items of a program, one after the other.
-use Rattle.std.proofs.Common.{◌≡◌, ℕ, ◌+◌, ◌<◌, List, [], ◌∷◌, ◌++◌, drop, take, get_or, length, Option, Some, None, Result, Ok, Err, IfOk, OnOk, refl, sym, ap, subst, ◌∙◌, arith}
+use Rattle.std.proofs.Common.{◌≡◌, ℕ, ◌+◌, ◌<◌, List, [], ◌∷◌, ◌++◌, drop, take, get_or, length, Option, Some, None, refl, sym, ap, subst, ◌∙◌, arith}
 use Rattle.std.proofs.lemmas.List.{append-nil, drop_all, drop_more, take_all}
 use Rattle.ml_tree.specs.declared.program.Item.{Item}
 use Rattle.ml_tree.specs.declared.program.ItemKind.{ItemKind}
@@ -11,7 +11,7 @@ use Rattle.ml_meaning.specs.Growth.{Begins}
 use Rattle.ml_meaning.specs.Patterns.{Env}
 use Rattle.ml_meaning.specs.Programs as m
 use Rattle.ml_meaning.specs.Programs.{answer}
-use Rattle.ml_meaning.specs.Runs.{Run, Done, Stop, Stopped, Ended, after, ◌>>=◌, trace}
+use Rattle.ml_meaning.specs.Runs.{Run, Done, Stop, Ended, after, ◌>>=◌, trace}
 use Rattle.ml_meaning.specs.Tellings.{Setting}
 use Rattle.ml_values.specs.declared.value.Env.{Env as Names}
 use Rattle.ml_values.specs.declared.value.Word.{Word}
