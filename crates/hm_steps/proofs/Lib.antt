@@ -1,0 +1,11 @@
+pub mod Arguments
+pub mod BinderLayers
+pub mod ExpressionLayers
+pub mod ExpressionParts
+pub mod ItemParts
+pub mod Lists
+pub mod Lookups
+pub mod PatternLayers
+pub mod PatternParts
+pub mod RowParts
+pub mod Walks

@@ -1,0 +1,7 @@
+use Rattle.std.proofs.Common.{◌≡◌, ◌++◌, map, drop}
+use Rattle.ml_typing.specs.Written.{Names}
+use Rattle.ml_typing.specs.Steps.{expression, ats}
+use Rattle.hm_steps.proofs.applications.fresh_types.Given as goal
+
+abbrev pub invariant-loop-number : goal.invariant-loop-number
+invariant-loop-number l = (names : Names) → l.types ++ ats l.n l.number (map (expression names) (drop l.number l.args)) ≡ ats l.n 0 (map (expression names) l.args)

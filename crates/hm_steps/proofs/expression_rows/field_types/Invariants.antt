@@ -1,0 +1,8 @@
+use Rattle.std.proofs.Common.{◌≡◌, ◌++◌, map, drop}
+use Rattle.ml_typing.specs.Rows.{fields_are}
+use Rattle.ml_typing.specs.Steps.{field_expr}
+use Rattle.ml_typing.specs.Typing.{names_of}
+use Rattle.hm_steps.proofs.expression_rows.field_types.Given as goal
+
+abbrev pub invariant-loop-field : goal.invariant-loop-field
+invariant-loop-field l = l.all ++ fields_are (names_of l.s.refs l.s.types l.item) l.n (map (field_expr (names_of l.s.refs l.s.types l.item)) (drop l.field-index l.fields)) ≡ l.fn.list ++ fields_are (names_of l.s.refs l.s.types l.item) l.n (map (field_expr (names_of l.s.refs l.s.types l.item)) l.fields)
