@@ -1,6 +1,6 @@
 -- The values and the names that the bindings of an item bind, step by step, and the item around them.
 use Rattle.std.proofs.Common.{◌≡◌, ℕ, Bool, List, [], ◌∷◌, ◌++◌, Result, Ok, Err, IfOk, refl, sym, ap, subst, ◌∙◌}
-use Rattle.std.proofs.lemmas.List.{append-nil, append_assoc}
+use Rattle.std.proofs.lemmas.List.{append_assoc}
 use Rattle.ml_tree.specs.declared.expr.Bind.{Bind}
 use Rattle.ml_tree.specs.declared.program.ItemKind.{ItemKind}
 use Rattle.ml_tree.specs.declared.program.ItemKind.TheVariants as item
@@ -28,15 +28,7 @@ use Rattle.ml_run.specs.declared.items.Matched.TheVariants as M
 use Rattle.ml_run.specs.Stack.{Began, Tells, bound_run, evaluated_run, fitted_run, matched_run, several_run, values_onto, values_run}
 use Rattle.ml_run.proofs.Runs.{after_nil, bind_bind, bind_as, tells_bind, tells_value, tells_told, tells_on, began_bind, began_told, tells_from}
 
-unpadded : (r : Run Event (List Value)) → r >>= (λ vs. Done [] (vs ++ [])) ≡ r
-unpadded (Done es vs) = ap (λ l. Done l (vs ++ [])) (append-nil es) ∙ ap (λ l. Done es l) (append-nil vs)
-unpadded (Stop es end) = refl
-
 module _ (s : Setting Event) (fuel : ℕ) where
-  -- one value more before the others
-  one_more : Bind → List Value → Run Event (List Value)
-  one_more b vs = bound_run s b fuel >>= λ v. Done [] (v ∷ vs)
-
   -- of several bindings the last is evaluated first
   values_last : (bs : List Bind) (b : Bind) → values_run s (bs ++ (b ∷ [])) fuel ≡ bound_run s b fuel >>= λ v. values_onto s bs fuel (v ∷ [])
   values_last [] b = after_nil (bound_run s b fuel >>= λ v. Done [] (v ∷ []))
@@ -59,10 +51,6 @@ module _ (s : Setting Event) (fuel : ℕ) where
       ∙ bind_as (values_run s bs fuel) _ _ (λ us. ap (λ l. Done [] l) (append_assoc us (v ∷ []) there))))
 
   -- ---- the loop over the bindings
-
-  -- at its beginning no value is there
-  pub words_none : (a : List Event) (bs : List Bind) → Tells a a (values_run s bs fuel) (values_onto s bs fuel [])
-  words_none a bs = ap (after a) (sym (unpadded (values_run s bs fuel)))
 
   turned_to : (a o : List Event) (all left before : List Bind) (b : Bind) (there : List Value) → Tells a o (values_run s all fuel) (values_onto s left fuel there) → left ≡ before ++ (b ∷ []) → Tells a o (values_run s all fuel) (bound_run s b fuel >>= λ v. values_onto s before fuel (v ∷ there))
   turned_to a o all left before b there h e =

@@ -37,23 +37,11 @@ trace_after es (Stop fs end) = refl
 pub begins_same : {A : Type 0} (xs : List A) → Begins xs xs
 begins_same xs = ([], append-nil xs)
 
-pub begins_more : {A : Type 0} (xs ys : List A) → Begins xs (xs ++ ys)
-begins_more xs ys = (ys, refl)
-
-pub begins_both : {A : Type 0} (xs ys zs : List A) → Begins xs ys → Begins ys zs → Begins xs zs
-begins_both xs ys zs (us, e) (vs, f) = (us ++ vs, sym (append_assoc xs us vs) ∙ (ap (λ l. l ++ vs) e ∙ f))
-
 pub trace_bind : {E A B : Type 0} (r : Run E A) (f : A → Run E B) → Begins (trace r) (trace (r >>= f))
 trace_bind (Done es a) f = (trace (f a), sym (trace_after es (f a)))
 trace_bind (Stop es end) f = begins_same es
 
 -- ---- what was told goes on
-
-pub tells_none : {A : Type 0} (now : List Event) (r : Run Event A) → Tells now now r r
-tells_none now r = refl
-
-pub tells_then : {A : Type 0} (a b c : List Event) (r q p : Run Event A) → Tells a b r q → Tells b c q p → Tells a c r p
-tells_then a b c r q p h g = h ∙ g
 
 pub tells_bind : {A B : Type 0} (a b : List Event) (r q : Run Event A) (f : A → Run Event B) → Tells a b r q → Tells a b (r >>= f) (q >>= f)
 tells_bind a b r q f h = sym (bind_after a r f) ∙ (ap (λ l. l >>= f) h ∙ bind_after b q f)
@@ -74,12 +62,6 @@ tells_began a b r q h = (trace q, sym (trace_after b q) ∙ (ap trace (sym h) �
 pub tells_on : {A : Type 0} (a b c : List Event) (r q : Run Event A) → Tells a b r q → Began b c q → Began a c r
 tells_on a b c r q h (rest, e) = (rest, e ∙ (sym (trace_after b q) ∙ (ap trace (sym h) ∙ trace_after a r)))
 
-pub began_none : {A : Type 0} (now : List Event) (r : Run Event A) → Began now now r
-began_none now r = (trace r, refl)
-
-pub began_same : {A : Type 0} (a b : List Event) (r : Run Event A) → b ≡ a → Began a b r
-began_same a b r is = (trace r, ap (λ l. l ++ trace r) is)
-
 pub began_bind : {A B : Type 0} (a b : List Event) (r : Run Event A) (f : A → Run Event B) → Began a b r → Began a b (r >>= f)
 began_bind a b r f (rest, e) =
     let (more, is) = trace_bind r f in (
@@ -95,9 +77,3 @@ began_told a b es r (rest, e) = (
 
 pub began_stop : {A : Type 0} (a b es : List Event) (end : Stopped) (r : Run Event A) → b ≡ a ++ es → r ≡ Stop es end → Began a b r
 began_stop a b es end r e is = ([], append-nil b ∙ (e ∙ ap (λ q. a ++ trace q) (sym is)))
-
-pub tells_stop : {A : Type 0} (a b es : List Event) (end : Stopped) (r : Run Event A) → b ≡ a ++ es → r ≡ Stop es end → Tells a b r (Stop [] end)
-tells_stop a b es end r e is = ap (after a) is ∙ ap (λ l. Stop l end) (sym e ∙ sym (append-nil b))
-
-pub tells_done : {A : Type 0} (a : List Event) (v : A) (r : Run Event A) → r ≡ Done [] v → Tells a a r (Done [] v)
-tells_done a v r is = ap (after a) is

@@ -1,5 +1,5 @@
 -- Laws of the stack of frames, and one turn of the loop.
-use Rattle.std.proofs.Common.{◌≡◌, List, [], ◌∷◌, ◌++◌, length, Option, Some, None, Result, Ok, Err, IfOk, refl, sym, ap, subst, ◌∙◌}
+use Rattle.std.proofs.Common.{◌≡◌, List, [], ◌∷◌, ◌++◌, Option, Some, None, Result, Ok, Err, IfOk, refl, sym, ap, subst, ◌∙◌}
 use Rattle.std.proofs.lemmas.List.{append-nil}
 use Rattle.std.specs.Option.{option_to_list}
 use Rattle.ml_meaning.specs.declared.event.Event.{Event}
@@ -16,7 +16,7 @@ use Rattle.ml_steps.specs.declared.frame.Step.{Step}
 use Rattle.ml_steps.specs.Left.{frame_run, next_run, step_run, then_run}
 use Rattle.ml_run.specs.declared.evaluate.Evaluated.{Evaluated}
 use Rattle.ml_run.specs.Stack.{Pushed, Tells, Turned, evaluated_run, frame_then, left_run, stacked}
-use Rattle.ml_run.proofs.Runs.{after_nil, bind_after, tells_told}
+use Rattle.ml_run.proofs.Runs.{after_nil, bind_after}
 
 module _ (s : Setting Event) where
   pub stacked_after : (fs : List Frame) (es : List Event) (r : Run Event Value) → stacked s fs (after es r) ≡ after es (stacked s fs r)
@@ -73,11 +73,6 @@ module _ (s : Setting Event) where
       ∙ (ap (after now) (stacked_option rest step.frame (next_run s step.next))
       ∙ cc)))
 
-  -- a value with no frame left is at its end
-  pub gave_all : (before : List Event) (old new : List Frame) (word : Word) → length old ≡ 0 → Turned s before before old new (n.Give word) None
-  gave_all before [] new word none = (refl, refl)
-  gave_all before (f ∷ fs) new word none = cc
-
   pub stopped_at : (before : List Event) (old new : List Frame) (next : Next) (end : Ending) → next ≡ n.Stop end → Turned s before before old new next None
   stopped_at before old new next end is =
       (refl, ap (left_run s old) is ∙ (stacked_stop old [] (Ended end) ∙ ap (next_run s) (sym is)))
@@ -94,15 +89,6 @@ module _ (s : Setting Event) where
   gave_answer before now old rest new f word step (Ok more) parts h p = gave before now old rest new f word step more parts h p
 
   -- ---- the loop
-
-  pub turns_none : (start : List Event) (first : Next) → Tells start start (next_run s first) (left_run s [] first)
-  turns_none start first = refl
-
-  pub turned_more : (a o p before now : List Event) (old new : List Frame) (first next more : Next) → Tells a o (next_run s first) (left_run s old next) → before ≡ [] → Turned s before now old new next (Some more) → p ≡ o ++ now → Tells a p (next_run s first) (left_run s new more)
-  turned_more a o p before now old new first next more h none turned e =
-      let here : left_run s old next ≡ after now (left_run s new more) =
-      sym (after_nil (left_run s old next)) ∙ (ap (λ l. after l (left_run s old next)) (sym none) ∙ turned) in
-      tells_told a o p now (next_run s first) (left_run s new more) (h ∙ ap (after o) here) e
 
   turned_none : (a o before now : List Event) (old new : List Frame) (first next : Next) (run : Run Event Value) → Tells a o (next_run s first) (left_run s old next) → Turned s before now old new next None → next_run s next ≡ run → Tells a o (next_run s first) run
   turned_none a o before now old new first next run h turned e = h ∙ (ap (after o) turned.1 ∙ ap (after o) e)

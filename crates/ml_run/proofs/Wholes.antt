@@ -20,7 +20,7 @@ use Rattle.ml_run.specs.declared.items.Matched.{Matched}
 use Rattle.ml_run.specs.declared.items.Matched.TheVariants as M
 use Rattle.ml_run.specs.Stack.{Began, Tells, matched_run}
 use Rattle.ml_run.specs.Whole.{Advanced, Holds, Ran, items_from, program_setting}
-use Rattle.ml_run.proofs.Runs.{tells_bind, tells_value, tells_began, tells_on, began_bind}
+use Rattle.ml_run.proofs.Runs.{tells_bind, tells_value, tells_on, began_bind}
 
 -- ---- the whole answer, by the events that were told
 
@@ -85,9 +85,6 @@ module _ (s : Scoped) (fuel : ℕ) where
       let P : List (Option Word) → Type 0 = λ l. Holds l env in
       (env, (subst P (sym is) holds, h))
 
-  pub went_none : (a : List Event) (tops : List (Option Word)) → Holds tops [] → Went s fuel a a tops s.program.items
-  went_none a tops h = ([], (h, refl))
-
   abbrev item_run : Item → Env → Run Event Env
   item_run it env = m.item_evaluated Event (program_setting s env) fuel it.kind
 
@@ -124,6 +121,3 @@ module _ (s : Scoped) (fuel : ℕ) where
   pub went_all : (a o : List Event) (tops : List (Option Word)) (left : List Item) → left ≡ [] → Went s fuel a o tops left → Ran a o (ending.Exit 0) (answer whole)
   went_all a o tops left is (env, (holds, h)) =
       ran_all a o whole env (h ∙ ap (λ l. after o (items_from s fuel l env)) is)
-
-  pub went_far : (a o : List Event) (tops : List (Option Word)) (left : List Item) → Went s fuel a o tops left → Begins o (a ++ (answer whole).0)
-  went_far a o tops left (env, (holds, h)) = began_answer a o whole (tells_began a o whole (items_from s fuel left env) h)
