@@ -1,0 +1,3 @@
+pub mod Stores
+pub mod Shapes
+pub mod Contexts
