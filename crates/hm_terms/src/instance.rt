@@ -1,13 +1,14 @@
 //! Instances of types: their variables at other types. Only the parts that hold variables are copied.
-ghost use Rattle.std.specs.Prelude.{◌≡◌, ℕ, IfOk, OnOk, Option, Some, None, List, length};
-ghost use Rattle.ml_types.specs.Types.{Tree, parts_of};
-ghost use Rattle.ml_types.specs.declared.node.TyNode.TheVariants.{Arrow};
+ghost use Rattle.std.specs.Prelude.{◌≡◌, ℕ, IfOk, OnOk, IsTrue, Some, nat_eq};
+ghost use Rattle.std.specs.HashMap.{get};
+ghost use Rattle.ml_types.specs.Types.{Tree};
+ghost use Rattle.ml_types.specs.declared.node.TyNode.TheVariants.{Var};
 ghost use Rattle.ml_typing.specs.Terms.{Shape, with_shapes};
 ghost use Rattle.hm_unify.specs.Solutions.{Stands};
 ghost use Rattle.hm_unify.specs.States.{IsHead};
-ghost use Rattle.hm_terms.specs.Stores.{Store, store, IsReady, Grows, AddsNode};
+ghost use Rattle.hm_terms.specs.Stores.{store, IsReady};
 ghost use Rattle.hm_terms.specs.Shapes.{Lowers, Puts};
-ghost use Rattle.hm_terms.specs.Copies.{Copied, Copies, Changed, Rebuilt};
+ghost use Rattle.hm_terms.specs.Copies.{AreCopies, Copies, Rebuilt};
 
 use crate::nodes::part;
 use crate::solver::Solver;
@@ -76,7 +77,7 @@ fn visit(
     stack: &mut Vec<Frame>,
     frame: Frame,
 ) -> Result<(), NoMemory>
-    ensures { OnOk result (Copies (store solver.old) (store solver.new) put.entry copies.old copies.new) }
+    ensures { OnOk result (Copies (store solver.old) (store solver.new) put.entry (get nat_eq copies.old) (get nat_eq copies.new)) }
 {
     let Frame { id, next } = frame;
     let Some(node) = solver.head(id) else {
@@ -97,4 +98,115 @@ fn visit(
         }
         None => copy_node(solver, put, copies, id),
     }
+}
+
+/// Notes what is put for the variable that stands for an id.
+fn copy_variable(
+    solver: &mut Solver,
+    put: Put,
+    copies: &mut HashMap<u32, TyId>,
+    id: TyId,
+    number: u32,
+) -> Result<(), NoMemory>
+    ensures { OnOk result (IsHead solver.old.bindings id (Var number) → Copies (store solver.old) (store solver.new) put.entry (get nat_eq copies.old) (get nat_eq copies.new)) }
+{
+    let copy = type_for(solver, put, number)?;
+    copies.insert(id.0, copy)?;
+    Ok(())
+}
+
+/// Notes the copy of a node whose parts have copies.
+fn copy_node(
+    solver: &mut Solver,
+    put: Put,
+    copies: &mut HashMap<u32, TyId>,
+    id: TyId,
+) -> Result<(), NoMemory>
+    ensures { OnOk result (Copies (store solver.old) (store solver.new) put.entry (get nat_eq copies.old) (get nat_eq copies.new)) }
+{
+    let copy = rebuilt(solver, copies, id)?;
+    copies.insert(id.0, copy)?;
+    Ok(())
+}
+
+/// A node with the copies of its parts: the node itself where these are its parts.
+fn rebuilt(solver: &mut Solver, copies: &HashMap<u32, TyId>, id: TyId) -> Result<TyId, NoMemory>
+    ensures { IfOk result (λ x. Rebuilt (store solver.old) (store solver.new) (get nat_eq copies.now) id x) }
+{
+    let alloc = solver.alloc;
+    let Some(node) = solver.head(id) else {
+        return Err(NoMemory)
+    };
+    match node {
+        TyNode::Var(_) => Err(NoMemory),
+        TyNode::Con(number, parts) => {
+            let number = *number;
+            let others = copies_of(alloc, copies, parts.as_slice())?;
+            if same_ids(parts.as_slice(), others.as_slice()) {
+                return Ok(id);
+            }
+            solver.add(TyNode::Con(number, others))
+        }
+        TyNode::Tuple(parts) => {
+            let others = copies_of(alloc, copies, parts.as_slice())?;
+            if same_ids(parts.as_slice(), others.as_slice()) {
+                return Ok(id);
+            }
+            solver.add(TyNode::Tuple(others))
+        }
+        TyNode::Arrow { slot, from, to } => {
+            let slot = *slot;
+            let from = *from;
+            let to = *to;
+            let first = copy_of(copies, from)?;
+            let second = copy_of(copies, to)?;
+            if first == from && second == to {
+                return Ok(id);
+            }
+            // An instance's arrow keeps the slot.
+            solver.add(TyNode::Arrow {
+                slot,
+                from: first,
+                to: second,
+            })
+        }
+    }
+}
+
+/// The copy of an id that has one.
+fn copy_of(copies: &HashMap<u32, TyId>, id: TyId) -> Result<TyId, NoMemory>
+    ensures { IfOk result (λ x. get nat_eq copies.now id.0 ≡ Some x) }
+{
+    copies.get(&id.0).copied().ok_or(NoMemory)
+}
+
+/// The copies of ids that have one.
+fn copies_of(
+    alloc: Global,
+    copies: &HashMap<u32, TyId>,
+    parts: &[TyId],
+) -> Result<Items<TyId>, NoMemory>
+    ensures { IfOk result (λ xs. AreCopies (get nat_eq copies.now) parts.now xs) }
+{
+    let mut others = Items::new(alloc);
+    for id in parts {
+        let copy = copy_of(copies, *id)?;
+        others.push(copy)?;
+    }
+    Ok(others)
+}
+
+/// Whether two lists of ids are equal.
+fn same_ids(left: &[TyId], right: &[TyId]) -> bool
+    ensures { IsTrue result → left.now ≡ right.now }
+{
+    if left.len() != right.len() {
+        return false;
+    }
+    for at in 0..left.len() {
+        if left[at].0 != right[at].0 {
+            return false;
+        }
+    }
+    true
 }
