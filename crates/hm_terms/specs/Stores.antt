@@ -44,6 +44,7 @@ pub record SameNames (old new : Store) : Type 0 where
 pub record AddsNode (old new : Store) (node : TyNode) (id : TyId) : Type 0 where
   pub adds : Adds (state old) (state new) node id
   pub within : PartsWithin (length old.nodes) node
+  pub tabled : IsTabled new.nodes new.bound
   pub ids : (u : Unknown) → new.ids u ≡ old.ids u
   pub names : SameNames old new
 
@@ -51,6 +52,7 @@ pub record AddsNode (old new : Store) (node : TyNode) (id : TyId) : Type 0 where
 pub record AddsUnknown (old new : Store) (u : Unknown) (id : TyId) : Type 0 where
   pub none : old.ids u ≡ None
   pub adds : AddsFresh (state old) (state new) id
+  pub tabled : IsTabled new.nodes new.bound
   pub there : new.ids u ≡ Some id
   pub others : (v : Unknown) → (v ≡ u → ⊥) → new.ids v ≡ old.ids v
   pub names : SameNames old new
