@@ -11,9 +11,8 @@ use Rattle.ml_types.specs.Types.{Head, head_of, parts_of, Tree, Trees}
 use Rattle.ml_typing.specs.declared.equation.Unknown.{Unknown}
 use Rattle.ml_typing.specs.Typing.{Assignment}
 use Rattle.hm_unify.specs.Solutions.{Bound, node_at, number_at, variable_of, link, Ends, here, there, Stands, variable, built, StandAll, none, more}
-use Rattle.hm_unify.specs.States.{IsTabled}
 use Rattle.hm_unify.proofs.Ends.{link-number, number-var}
-use Rattle.hm_terms.specs.Stores.{Store, SameNames, Reading, Reaches, at_end, in_part, IsBefore, IsOwn, IsReady, Extended, Grows}
+use Rattle.hm_terms.specs.Stores.{IsClosed, Store, SameNames, Reading, Reaches, at_end, in_part, IsBefore, IsOwn, IsReady, Extended, Grows}
 
 -- more nodes at the end, and the same bindings
 pub record Longer (old new : Store) : Type 0 where
@@ -48,7 +47,7 @@ link_same old new g x h =
     ap (λ (o : Option TyNode). option_and_then (λ n. get_or new.bound n None) (option_and_then variable_of o)) (node_same old new g x h)
     ∙ linked_by old.bound new.bound (number_at old.nodes x) g.bound
 
-pub linked_within : (s : Store) → IsTabled s.nodes s.bound → (x y : TyId) → link s.nodes s.bound x ≡ Some y → y.0 < length s.nodes
+pub linked_within : (s : Store) → IsClosed s.nodes s.bound → (x y : TyId) → link s.nodes s.bound x ≡ Some y → y.0 < length s.nodes
 linked_within s k x y h = let l = link-number s.nodes s.bound x y h in k.targets_in l.0 y l.2
 
 pub link_within : (s : Store) (x y : TyId) → link s.nodes s.bound x ≡ Some y → x.0 < length s.nodes
@@ -62,32 +61,62 @@ pub stands_within : (s : Store) (x : TyId) (w : Tree) → Stands s.nodes s.bound
 stands_within s x w (variable y e n ends at) = ends_within s y e (Var n) ends at
 stands_within s x w (built y e n h ws ends at head all) = ends_within s y e n ends at
 
-pub end_within : (s : Store) → IsTabled s.nodes s.bound → (x e : TyId) → x.0 < length s.nodes → Ends s.nodes s.bound x e → e.0 < length s.nodes
+pub end_within : (s : Store) → IsClosed s.nodes s.bound → (x e : TyId) → x.0 < length s.nodes → Ends s.nodes s.bound x e → e.0 < length s.nodes
 end_within s k x e h (here w p) = h
 end_within s k x e h (there w y v p q) = end_within s k y v (linked_within s k w y p) q
 
-pub ends_grow : (old new : Store) → Longer old new → IsTabled old.nodes old.bound → (x e : TyId) → x.0 < length old.nodes → Ends old.nodes old.bound x e → Ends new.nodes new.bound x e
+pub ends_grow : (old new : Store) → Longer old new → IsClosed old.nodes old.bound → (x e : TyId) → x.0 < length old.nodes → Ends old.nodes old.bound x e → Ends new.nodes new.bound x e
 ends_grow old new g k x e h (here w p) = here w (link_same old new g w h ∙ p)
 ends_grow old new g k x e h (there w y v p q) = there w y v (link_same old new g w h ∙ p) (ends_grow old new g k y v (linked_within old k w y p) q)
 
-pub ends_back : (old new : Store) → Longer old new → IsTabled old.nodes old.bound → (x e : TyId) → x.0 < length old.nodes → Ends new.nodes new.bound x e → Ends old.nodes old.bound x e
+pub ends_back : (old new : Store) → Longer old new → IsClosed old.nodes old.bound → (x e : TyId) → x.0 < length old.nodes → Ends new.nodes new.bound x e → Ends old.nodes old.bound x e
 ends_back old new g k x e h (here w p) = here w (sym (link_same old new g w h) ∙ p)
 ends_back old new g k x e h (there w y v p q) =
     let l : link old.nodes old.bound w ≡ Some y = sym (link_same old new g w h) ∙ p in
     there w y v l (ends_back old new g k y v (linked_within old k w y l) q)
 
+-- what stands at the ids below a mark, closed under parts and links, stays where these stay
+record SameBelow (mark : ℕ) (nodes others : List TyNode) (m k : Bound) : Type 0 where
+  node_is : (x : TyId) → x.0 < mark → node_at others x ≡ node_at nodes x
+  ends : (x e : TyId) → x.0 < mark → Ends nodes m x e → Ends others k x e
+  end_below : (x e : TyId) → x.0 < mark → Ends nodes m x e → e.0 < mark
+  part : (x : TyId) (n : TyNode) (i : ℕ) (p : TyId) → x.0 < mark → node_at nodes x ≡ Some n → slice_get (parts_of n) i ≡ Some p → p.0 < mark
+
+abbrev AllBelow : ℕ → List TyId → Type 0
+AllBelow mark [] = Unit {0}
+AllBelow mark (p ∷ ps) = (p.0 < mark) × AllBelow mark ps
+
+all_below : (mark : ℕ) (ps : List TyId) → ((i : ℕ) (p : TyId) → slice_get ps i ≡ Some p → p.0 < mark) → AllBelow mark ps
+all_below mark [] h = tt
+all_below mark (p ∷ ps) h = (h 0 p refl, all_below mark ps (λ i q e. h (suc i) q e))
+
 mutual
-  pub stands_grow : (old new : Store) → Longer old new → IsTabled old.nodes old.bound → (x : TyId) (w : Tree) → Stands old.nodes old.bound x w → Stands new.nodes new.bound x w
-  stands_grow old new g k x w (variable y e n ends at) =
-      variable y e n (ends_grow old new g k y e (ends_within old y e (Var n) ends at) ends) (node_old old new g e (Var n) at)
-  stands_grow old new g k x w (built y e n h ws ends at head all) =
-      built y e n h ws (ends_grow old new g k y e (ends_within old y e n ends at) ends) (node_old old new g e n at) head (stand_all_grow old new g k (parts_of n) ws all)
+  stands_stays : (mark : ℕ) (nodes others : List TyNode) (m k : Bound) → SameBelow mark nodes others m k → (x : TyId) (w : Tree) → x.0 < mark → Stands nodes m x w → Stands others k x w
+  stands_stays mark nodes others m k s x w h (variable y e n ends at) =
+      variable y e n (s.ends y e h ends) (s.node_is e (s.end_below y e h ends) ∙ at)
+  stands_stays mark nodes others m k s x w h (built y e n i ws ends at head all) =
+      let below = s.end_below y e h ends in
+      built y e n i ws (s.ends y e h ends) (s.node_is e below ∙ at) head
+      (stand_all_stays mark nodes others m k s (parts_of n) ws (all_below mark (parts_of n) (λ j p q. s.part e n j p below at q)) all)
 
-  pub stand_all_grow : (old new : Store) → Longer old new → IsTabled old.nodes old.bound → (xs : List TyId) (ws : Trees) → StandAll old.nodes old.bound xs ws → StandAll new.nodes new.bound xs ws
-  stand_all_grow old new g k xs ws none = none
-  stand_all_grow old new g k xs ws (more x ys w us one all) = more x ys w us (stands_grow old new g k x w one) (stand_all_grow old new g k ys us all)
+  stand_all_stays : (mark : ℕ) (nodes others : List TyNode) (m k : Bound) → SameBelow mark nodes others m k → (xs : List TyId) (ws : Trees) → AllBelow mark xs → StandAll nodes m xs ws → StandAll others k xs ws
+  stand_all_stays mark nodes others m k s xs ws h none = none
+  stand_all_stays mark nodes others m k s xs ws h (more x ys w us one all) =
+      more x ys w us (stands_stays mark nodes others m k s x w h.0 one) (stand_all_stays mark nodes others m k s ys us h.1 all)
 
-pub reaches_back : (old new : Store) → Longer old new → IsTabled old.nodes old.bound → (x : TyId) (n : ℕ) → x.0 < length old.nodes → Reaches new.nodes new.bound x n → Reaches old.nodes old.bound x n
+same_below : (old new : Store) → Longer old new → IsClosed old.nodes old.bound → SameBelow (length old.nodes) old.nodes new.nodes old.bound new.bound
+same_below old new g k = record {
+  node_is = node_same old new g;
+  ends = ends_grow old new g k;
+  end_below = end_within old k;
+  part = λ x n i p h at q. k.parts_in x n i p at q;
+}
+
+pub stands_grow : (old new : Store) → Longer old new → IsClosed old.nodes old.bound → (x : TyId) (w : Tree) → Stands old.nodes old.bound x w → Stands new.nodes new.bound x w
+stands_grow old new g k x w s =
+    stands_stays (length old.nodes) old.nodes new.nodes old.bound new.bound (same_below old new g k) x w (stands_within old x w s) s
+
+pub reaches_back : (old new : Store) → Longer old new → IsClosed old.nodes old.bound → (x : TyId) (n : ℕ) → x.0 < length old.nodes → Reaches new.nodes new.bound x n → Reaches old.nodes old.bound x n
 reaches_back old new g k x n h (at_end y e m ends at) =
     let back = ends_back old new g k y e h ends in
     at_end y e m back (sym (node_same old new g e (end_within old k y e h back)) ∙ at)
@@ -102,7 +131,7 @@ before_back old new g k n b =
     (b.0, below, sym (node_same old new g b.0 (omega (arith, below, k))) ∙ b.2)
 
 pub own_grows : (old new : Store) → Longer old new → IsReady old → (x : TyId) → x.0 < length old.nodes → IsOwn old x → IsOwn new x
-own_grows old new g k x h o = λ n r b. o n (reaches_back old new g k.tabled x n h r) (before_back old new g k.mark_within n b)
+own_grows old new g k x h o = λ n r b. o n (reaches_back old new g k.closed x n h r) (before_back old new g k.mark_within n b)
 
 pub reading_back : (old new : Store) → Grows old new → (t : TyId → Tree) (a : Assignment) → Reading new t a → Reading old t a
 reading_back old new g t a r =

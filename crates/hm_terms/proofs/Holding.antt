@@ -16,9 +16,9 @@ use Rattle.ml_typing.specs.Typing.{Assignment, tree_of, trees_of, StandsIn, Stan
 use Rattle.hm_unify.specs.Solutions.{Bound, node_at, number_at, variable_of, link, Ends, here, Solves}
 use Rattle.hm_unify.proofs.Ends.{Ends-here, Ends-unique, var-number}
 use Rattle.hm_unify.proofs.Starts.{Ends-same}
-use Rattle.hm_terms.specs.Stores.{Store, AddsNode, AddsUnknown, Knows, Reading, Reaches, at_end, in_part, IsBefore, IsOwn, IsReady, Extended, Grows}
+use Rattle.hm_terms.specs.Stores.{IsClosed, Store, AddsNode, AddsUnknown, Knows, Reading, Reaches, at_end, in_part, IsBefore, IsOwn, IsReady, Extended, Grows}
 use Rattle.hm_terms.specs.Shapes.{Holds, HoldAll, Lowers, LowersAll}
-use Rattle.hm_terms.proofs.Pushes.{extended, extended_old, extended_new, built_tree, fresh_tree, Solves-push}
+use Rattle.hm_terms.proofs.Pushes.{extended, extended_old, extended_new, built_tree, fresh_tree, Solves-push, closed_push}
 use Rattle.hm_terms.proofs.Growth.{Longer, longer, own_grows, reading_back, grows_same, grows_then, length_longer, before_back}
 
 at_last : {A : Type 0} (xs : List A) (x : A) → slice_get (xs ++ x ∷ []) (length xs) ≡ Some x
@@ -58,7 +58,7 @@ grows_node old new n h id a e = record {
   ids = λ v x p. a.ids v ∙ p;
   names = a.names;
   ready = λ r. record {
-    tabled = a.tabled;
+    closed = closed_push old.nodes old.bound new.nodes new.bound n r.closed a.adds.nodes a.adds.bound a.within;
     mark_within = omega (arith, r.mark_within, a.names.mark, length_longer old new l);
     within = λ v x p. (let w = r.within v x (sym (a.ids v) ∙ p) in omega (arith, w, length_longer old new l));
     own = λ v x p. (let q = sym (a.ids v) ∙ p in own_grows old new l r x (r.within v x q) (r.own v x q));
@@ -67,7 +67,7 @@ grows_node old new n h id a e = record {
     types = extended (length old.nodes) t (Node h (trees t (parts_of n)));
     reading = record {
       solves = subst (λ (ns : List TyNode). Solves ns new.bound (extended (length old.nodes) t (Node h (trees t (parts_of n))))) (sym a.adds.nodes)
-          (Solves-push old.nodes old.bound new.bound n t (Node h (trees t (parts_of n))) r.tabled k.solves a.adds.bound a.within (built_tree old.nodes old.bound t n h e));
+          (Solves-push old.nodes old.bound new.bound n t (Node h (trees t (parts_of n))) r.closed k.solves a.adds.bound a.within (built_tree old.nodes old.bound t n h e));
       reads = λ v x p. (let q = sym (a.ids v) ∙ p in extended_old (length old.nodes) t (Node h (trees t (parts_of n))) x (r.within v x q) ∙ k.reads v x q);
     };
     agrees = λ x w. extended_old (length old.nodes) t (Node h (trees t (parts_of n))) x w;
@@ -108,7 +108,7 @@ grows_unknown old new v id a = record {
   ids = kept;
   names = a.names;
   ready = λ r. record {
-    tabled = a.tabled;
+    closed = closed_push old.nodes old.bound new.nodes new.bound (Var a.adds.number) r.closed a.adds.adds.nodes a.adds.adds.bound (λ i p h. absurd (let q : None ≡ Some p = h in cc));
     mark_within = omega (arith, r.mark_within, a.names.mark, length_longer old new l);
     within = λ w x p. within_by r w x p (unknown_cases w v);
     own = λ w x p. own_by r w x p (unknown_cases w v);
@@ -144,7 +144,7 @@ grows_unknown old new v id a = record {
       types = types;
       reading = record {
         solves = subst (λ (ns : List TyNode). Solves ns new.bound types) (sym a.adds.adds.nodes)
-            (Solves-push old.nodes old.bound new.bound (Var a.adds.number) t (c v) r.tabled k.solves a.adds.adds.bound (λ i p h. absurd (let q : None ≡ Some p = h in cc))
+            (Solves-push old.nodes old.bound new.bound (Var a.adds.number) t (c v) r.closed k.solves a.adds.adds.bound (λ i p h. absurd (let q : None ≡ Some p = h in cc))
             (fresh_tree old.nodes old.bound t a.adds.number (c v) a.adds.unused (sym (a.adds.adds.bound a.adds.number) ∙ a.adds.free)));
         reads = λ w x p. reads_by w x p (unknown_cases w v);
       };

@@ -1,3 +1,5 @@
 pub mod Pushes
 pub mod Growth
+pub mod Keys
 pub mod Holding
+pub mod Tables

@@ -1,5 +1,5 @@
 -- Solutions of a table with one node more.
-use Rattle.std.proofs.Common.{◌≡◌, ℕ, ◌<◌, ◌⊎◌, true, false, cond, eqb, List, [], ◌∷◌, ◌++◌, length, Some, None, suc, refl, sym, ap, ◌∙◌, inl, inr, ⊎_elim, arith, get_or}
+use Rattle.std.proofs.Common.{◌≡◌, ℕ, ◌<◌, ◌⊎◌, true, false, cond, eqb, List, [], ◌∷◌, ◌++◌, length, Some, None, suc, refl, sym, ap, ◌∙◌, inl, inr, ⊎_elim, arith, get_or, length-append, subst, ◌+◌}
 use Rattle.std.specs.List.{slice_get}
 use Rattle.std.specs.Option.{option_and_then}
 use Rattle.std.proofs.lemmas.Option.{slice_get_within}
@@ -10,10 +10,10 @@ use Rattle.ml_types.specs.declared.node.TyNode.{TyNode}
 use Rattle.ml_types.specs.declared.node.TyNode.TheVariants.{Var}
 use Rattle.ml_types.specs.Types.{Head, head_of, parts_of, Tree, Node, Cons, trees}
 use Rattle.hm_unify.specs.Solutions.{Bound, node_at, variable_of, Solves}
-use Rattle.hm_unify.specs.States.{IsTabled}
 use Rattle.hm_unify.proofs.Ends.{link-number, var-number, number-var}
 use Rattle.hm_unify.proofs.Starts.{id-from}
 use Rattle.hm_unify.proofs.Growth.{at_push}
+use Rattle.hm_terms.specs.Stores.{IsClosed}
 
 -- the tree of a new node, over those of the old ones
 pub record NewTree (nodes : List TyNode) (bound : Bound) (t : TyId → Tree) (n : TyNode) (tree : Tree) : Type 0 where
@@ -56,7 +56,7 @@ trees_same : (t u : TyId → Tree) (xs : List TyId) → ((i : ℕ) (p : TyId) �
 trees_same t u [] h = refl
 trees_same t u (x ∷ xs) h = ap (λ v. Cons v (trees t xs)) (h 0 x refl) ∙ ap (Cons (u x)) (trees_same t u xs (λ i p q. h (suc i) p q))
 
-pub Solves-push : (nodes : List TyNode) (bound bound' : Bound) (n : TyNode) (t : TyId → Tree) (tree : Tree) → IsTabled nodes bound → Solves nodes bound t → ((k : ℕ) → get_or bound' k None ≡ get_or bound k None) → ((i : ℕ) (p : TyId) → slice_get (parts_of n) i ≡ Some p → p.0 < length nodes) → NewTree nodes bound t n tree → Solves (nodes ++ n ∷ []) bound' (extended (length nodes) t tree)
+pub Solves-push : (nodes : List TyNode) (bound bound' : Bound) (n : TyNode) (t : TyId → Tree) (tree : Tree) → IsClosed nodes bound → Solves nodes bound t → ((k : ℕ) → get_or bound' k None ≡ get_or bound k None) → ((i : ℕ) (p : TyId) → slice_get (parts_of n) i ≡ Some p → p.0 < length nodes) → NewTree nodes bound t n tree → Solves (nodes ++ n ∷ []) bound' (extended (length nodes) t tree)
 Solves-push nodes bound bound' n t tree k s same parts w =
     record {
       nodes_are = λ x m h p q. nodes_by x m h q (at_push nodes n m x.0 p);
@@ -88,3 +88,18 @@ Solves-push nodes bound bound' n t tree k s same parts w =
         old x _ p ∙ s.bound_is x y (ap (option_and_then (λ j. get_or bound j None)) (var-number nodes x i p) ∙ h) ∙ sym (extended_old (length nodes) t tree y (k.targets_in i y h))
     bound_by x y i h (inr p) =
         extended_new (length nodes) t tree x p.0 ∙ w.bound_to i y p.1 h ∙ sym (extended_old (length nodes) t tree y (k.targets_in i y h))
+
+-- a table with one node more is closed, if the node's parts were there
+pub closed_push : (nodes : List TyNode) (bound : Bound) (others : List TyNode) (m : Bound) (n : TyNode) → IsClosed nodes bound → others ≡ nodes ++ n ∷ [] → ((k : ℕ) → get_or m k None ≡ get_or bound k None) → ((i : ℕ) (p : TyId) → slice_get (parts_of n) i ≡ Some p → p.0 < length nodes) → IsClosed others m
+closed_push nodes bound others m n k grown same parts =
+    record {
+      parts_in = λ x j i p h q. parts_by x j i p q (at_push nodes n j x.0 (sym (ap (λ (ns : List TyNode). slice_get ns x.0) grown) ∙ h));
+      targets_in = λ j y h. (let w = k.targets_in j y (sym (same j) ∙ h) in omega (arith, w, longer));
+    }
+  where
+    longer : length others ≡ length nodes + 1
+    longer = ap length grown ∙ length-append nodes (n ∷ [])
+
+    parts_by : (x : TyId) (j : TyNode) (i : ℕ) (p : TyId) → slice_get (parts_of j) i ≡ Some p → (slice_get nodes x.0 ≡ Some j) ⊎ ((x.0 ≡ length nodes) × (n ≡ j)) → p.0 < length others
+    parts_by x j i p q (inl h) = (let w = k.parts_in x j i p h q in omega (arith, w, longer))
+    parts_by x j i p q (inr h) = (let w = parts i p (ap (λ z. slice_get (parts_of z) i) h.1 ∙ q) in omega (arith, w, longer))

@@ -10,7 +10,7 @@ use Rattle.ml_typing.specs.declared.equation.Unknown.{Unknown}
 use Rattle.ml_typing.specs.declared.equation.Unknown.TheVariants.{Node, Binder, Fresh}
 use Rattle.ml_typing.specs.Typing.{Assignment}
 use Rattle.hm_unify.specs.Solutions.{Bound, node_at, Ends, Solves}
-use Rattle.hm_unify.specs.States.{State, IsTabled, Adds, AddsFresh, PartsWithin}
+use Rattle.hm_unify.specs.States.{State, Adds, AddsFresh, PartsWithin}
 use Rattle.hm_terms.specs.declared.ids.Ids.{Ids}
 use Rattle.hm_terms.specs.declared.solver.Solver.{Solver}
 
@@ -29,7 +29,7 @@ pub record Store : Type 0 where
   pub mark : ℕ
 
 abbrev pub store : Solver → Store
-store s = record { nodes = s.bindings.nodes; bound = s.bindings.bound; ids = id_of s.ids; schemes = get nat_eq s.schemes; operations = s.operations.items; mark = s.mark }
+store s = record { nodes = s.table.bindings.nodes; bound = s.table.bindings.bound; ids = id_of s.ids; schemes = get nat_eq s.schemes; operations = s.operations.items; mark = s.mark }
 
 abbrev pub state : Store → State
 state s = record { nodes = s.nodes; bound = s.bound }
@@ -44,7 +44,6 @@ pub record SameNames (old new : Store) : Type 0 where
 pub record AddsNode (old new : Store) (node : TyNode) (id : TyId) : Type 0 where
   pub adds : Adds (state old) (state new) node id
   pub within : PartsWithin (length old.nodes) node
-  pub tabled : IsTabled new.nodes new.bound
   pub ids : (u : Unknown) → new.ids u ≡ old.ids u
   pub names : SameNames old new
 
@@ -52,7 +51,6 @@ pub record AddsNode (old new : Store) (node : TyNode) (id : TyId) : Type 0 where
 pub record AddsUnknown (old new : Store) (u : Unknown) (id : TyId) : Type 0 where
   pub none : old.ids u ≡ None
   pub adds : AddsFresh (state old) (state new) id
-  pub tabled : IsTabled new.nodes new.bound
   pub there : new.ids u ≡ Some id
   pub others : (v : Unknown) → (v ≡ u → ⊥) → new.ids v ≡ old.ids v
   pub names : SameNames old new
@@ -60,6 +58,11 @@ pub record AddsUnknown (old new : Store) (u : Unknown) (id : TyId) : Type 0 wher
 -- the type that an unknown had, or a new variable
 abbrev pub Knows : Store → Store → Unknown → TyId → Type 0
 Knows old new u id = ((old.ids u ≡ Some id) × (new ≡ old)) ⊎ AddsUnknown old new u id
+
+-- parts and links lead to ids of the table
+pub record IsClosed (nodes : List TyNode) (bound : Bound) : Type 0 where
+  pub parts_in : (x : TyId) (n : TyNode) (i : ℕ) (p : TyId) → node_at nodes x ≡ Some n → slice_get (parts_of n) i ≡ Some p → p.0 < length nodes
+  pub targets_in : (n : ℕ) (y : TyId) → slice_index_or bound n None ≡ Some y → y.0 < length nodes
 
 -- finite types of all ids, and types of the unknowns, that fit what is known
 pub record Reading (s : Store) (t : TyId → Tree) (a : Assignment) : Type 0 where
@@ -82,7 +85,7 @@ IsOwn s x = (n : ℕ) → Reaches s.nodes s.bound x n → IsBefore s n → ⊥
 
 -- what holds of a solver at any time
 pub record IsReady (s : Store) : Type 0 where
-  pub tabled : IsTabled s.nodes s.bound
+  pub closed : IsClosed s.nodes s.bound
   pub mark_within : s.mark ≤ length s.nodes
   pub within : (u : Unknown) (x : TyId) → s.ids u ≡ Some x → x.0 < length s.nodes
   pub own : (u : Unknown) (x : TyId) → s.ids u ≡ Some x → IsOwn s x

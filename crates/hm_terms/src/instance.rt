@@ -6,7 +6,7 @@ ghost use Rattle.ml_types.specs.declared.node.TyNode.TheVariants.{Var};
 ghost use Rattle.ml_typing.specs.Terms.{Shape, with_shapes};
 ghost use Rattle.hm_unify.specs.Solutions.{Stands};
 ghost use Rattle.hm_unify.specs.States.{IsHead};
-ghost use Rattle.hm_terms.specs.Stores.{store, IsReady};
+ghost use Rattle.hm_terms.specs.Stores.{store, state, IsReady};
 ghost use Rattle.hm_terms.specs.Shapes.{Lowers, Puts};
 ghost use Rattle.hm_terms.specs.Copies.{AreCopies, Copies, Rebuilt};
 
@@ -53,7 +53,7 @@ struct Frame {
 /// The type of `root` with other types for its variables. The walk has a stack of its own, since
 /// types can be as deep as the declarations are long.
 pub fn instance(solver: &mut Solver, root: TyId, put: Put) -> Result<TyId, NoMemory>
-    ensures { IfOk result (λ x. (f : ℕ → Shape) (w : Tree) → IsReady (store solver.old) → Puts (store solver.old) put.entry f → Stands solver.old.bindings.nodes solver.old.bindings.bound root w → Lowers (store solver.old) (store solver.new) (with_shapes f w) x) }
+    ensures { IfOk result (λ x. (f : ℕ → Shape) (w : Tree) → IsReady (store solver.old) → Puts (store solver.old) put.entry f → Stands (store solver.old).nodes (store solver.old).bound root w → Lowers (store solver.old) (store solver.new) (with_shapes f w) x) }
 {
     let alloc = solver.alloc;
     let mut copies: HashMap<u32, TyId> = HashMap::new(alloc);
@@ -108,7 +108,7 @@ fn copy_variable(
     id: TyId,
     number: u32,
 ) -> Result<(), NoMemory>
-    ensures { OnOk result (IsHead solver.old.bindings id (Var number) → Copies (store solver.old) (store solver.new) put.entry (get nat_eq copies.old) (get nat_eq copies.new)) }
+    ensures { OnOk result (IsHead (state (store solver.old)) id (Var number) → Copies (store solver.old) (store solver.new) put.entry (get nat_eq copies.old) (get nat_eq copies.new)) }
 {
     let copy = type_for(solver, put, number)?;
     copies.insert(id.0, copy)?;

@@ -1,6 +1,7 @@
 //! The types of one item's unknowns as bindings, and the types that terms stand for under them.
 #![tactic(auto)]
 
+mod counted;
 mod ids;
 mod instance;
 mod lowering;

@@ -62,7 +62,7 @@ fn types_of(solver: &mut Solver, d: &Decls, terms: &[Term]) -> Result<Items<TyId
 
 /// A type at the fresh types of a node.
 fn fresh_instance(solver: &mut Solver, id: TyId, node: u32) -> Result<TyId, NoMemory>
-    ensures { IfOk result (λ x. (w : Tree) → IsReady (store solver.old) → Stands solver.old.bindings.nodes solver.old.bindings.bound id w → Lowers (store solver.old) (store solver.new) (at_fresh node w) x) }
+    ensures { IfOk result (λ x. (w : Tree) → IsReady (store solver.old) → Stands (store solver.old).nodes (store solver.old).bound id w → Lowers (store solver.old) (store solver.new) (at_fresh node w) x) }
 {
     instance(solver, id, Put::Fresh(node))
 }

@@ -1,15 +1,15 @@
 //! The solver of one item: its unknowns' types over the types of all items before it.
-ghost use Rattle.std.specs.Prelude.{◌≡◌, ◌+◌, ℕ, length, None, Some, OnOk, OnErr, IfErr, IfOk, IfSome, IsNone, [], ◌≤◌, nat_eq, slice_get};
+ghost use Rattle.std.specs.Prelude.{◌≡◌, ◌+◌, ◌≤◌, ℕ, length, None, [], OnOk, OnErr, IfErr, IfOk, IfSome, IsNone, nat_eq, slice_get};
 ghost use Rattle.std.specs.HashMap.{get};
 ghost use Rattle.ml_types.specs.declared.node.TyNode.TheVariants.{Arrow};
 ghost use Rattle.ml_typing.specs.declared.equation.Unknown.{Unknown as UnknownValue};
-ghost use Rattle.hm_unify.specs.States.{IsTable, IsNew, IsHead, AddsFresh, Equated, Refused};
-ghost use Rattle.hm_terms.specs.Stores.{store, id_of, AddsNode, Knows};
+ghost use Rattle.hm_unify.specs.States.{IsTable, IsNew, IsHead, Equated, Refused};
+ghost use Rattle.hm_terms.specs.Stores.{store, state, id_of, AddsNode, Knows, SameNames};
 ghost use Rattle.hm_terms.specs.Contexts.{op_place};
 
+use crate::counted::Counted;
 use crate::ids::Ids;
-use crate::nodes::{pairs_within, parts_within};
-use hm_unify::{Bindings, UnifyErr};
+use hm_unify::UnifyErr;
 use ml_tree::Op;
 use ml_types::{TyId, TyNode, TyTable};
 use ml_typing::Unknown;
@@ -21,10 +21,8 @@ use std::collections::HashMap;
 #[derive(Drop)]
 pub struct Solver {
     pub alloc: Global,
-    bindings: Bindings,
-    /// How many nodes the bindings have.
-    count: u64,
-    /// How many they had when the item began.
+    table: Counted,
+    /// How many nodes there were when the item began.
     mark: u64,
     /// The types of the item's unknowns.
     ids: Ids,
@@ -33,28 +31,26 @@ pub struct Solver {
     /// The types of the operations, in their order.
     operations: Vec<TyId>,
     /// The first slot that no arrow has.
-    pub slots: u32,
-    ghost counted: { count ≡ length bindings.nodes },
+    slots: u32,
 }
 
 impl Solver {
     /// A solver over the declared types, whose arrows have the slots below `slots`.
-    pub fn new(alloc: Global, table: TyTable, slots: u32) -> Result<Solver, NoMemory>
-        requires { IsTable table.nodes }
-        ensures bindings { IfOk result (λ s. IsNew table.nodes s.bindings) }
-        ensures mark { IfOk result (λ s. s.mark ≡ length table.nodes) }
+    pub fn new(alloc: Global, types: TyTable, slots: u32) -> Result<Solver, NoMemory>
+        requires { IsTable types.nodes }
+        ensures bindings { IfOk result (λ s. IsNew types.nodes (state (store s))) }
+        ensures mark { IfOk result (λ s. s.mark ≡ length types.nodes) }
         ensures ids { IfOk result (λ s. (u : UnknownValue) → id_of s.ids u ≡ None) }
         ensures schemes { IfOk result (λ s. (b : ℕ) → get nat_eq s.schemes b ≡ None) }
         ensures operations { IfOk result (λ s. s.operations.items ≡ []) }
         ensures slots { IfOk result (λ s. s.slots ≡ slots) }
     {
-        let count = table.nodes.as_slice().len() as u64;
-        let bindings = Bindings::new(alloc, table)?;
+        let table = Counted::new(alloc, types)?;
+        let mark = table.count();
         Ok(Solver {
             alloc,
-            bindings,
-            count,
-            mark: count,
+            table,
+            mark,
             ids: Ids::new(alloc),
             schemes: HashMap::new(alloc),
             operations: Vec::new(alloc),
@@ -62,52 +58,32 @@ impl Solver {
         })
     }
 
-    /// A variable that no node has yet.
-    pub fn fresh(&mut self) -> Result<TyId, NoMemory>
-        ensures adds { IfOk result (λ id. AddsFresh self.old.bindings self.new.bindings id) }
-        ensures same { self.new ≡ record self.old { bindings = self.new.bindings; count = self.new.count } }
-    {
-        let id = self.bindings.fresh()?;
-        self.count = id.0 as u64 + 1;
-        Ok(id)
-    }
-
-    /// One node more, whose parts are ids of these bindings.
+    /// One node more, if its parts are ids of these bindings.
     pub fn add(&mut self, node: TyNode) -> Result<TyId, NoMemory>
         ensures adds { IfOk result (λ id. AddsNode (store self.old) (store self.new) node id) }
         ensures slots { self.new.slots ≡ self.old.slots }
     {
-        if !parts_within(&node, self.count) {
-            return Err(NoMemory);
-        }
-        let id = self.bindings.add(node)?;
-        self.count = id.0 as u64 + 1;
-        Ok(id)
+        self.table.add(node)
     }
 
     /// Makes the two of each pair equal.
     pub fn equate(&mut self, pairs: &[(TyId, TyId)]) -> Result<(), UnifyErr>
-        ensures ok { OnOk result (Equated self.old.bindings self.new.bindings pairs.now) }
-        ensures err { IfErr result (λ e. Refused self.old.bindings pairs.now e) }
-        ensures same { OnErr result (self.new.bindings ≡ self.old.bindings) }
-        ensures rest { self.new ≡ record self.old { bindings = self.new.bindings } }
+        ensures ok { OnOk result (Equated (state (store self.old)) (state (store self.new)) pairs.now) }
+        ensures err { IfErr result (λ e. Refused (state (store self.old)) pairs.now e) }
+        ensures same { OnErr result (store self.new ≡ store self.old) }
+        ensures ids { (u : UnknownValue) → id_of self.new.ids u ≡ id_of self.old.ids u }
+        ensures names { SameNames (store self.old) (store self.new) }
+        ensures slots { self.new.slots ≡ self.old.slots }
     {
-        if !pairs_within(pairs, self.count) {
-            return Err(UnifyErr::NoMemory);
-        }
-        self.bindings.equate(pairs)
+        self.table.equate(pairs)
     }
 
     /// The node that stands for an id; `None` where there is no such id.
     pub fn head(&self, id: TyId) -> Option<&TyNode>
-        ensures some { IfSome result (λ n. IsHead self.now.bindings id n.now) }
-        ensures none { IsNone result → length self.now.bindings.nodes ≤ id.0 }
+        ensures some { IfSome result (λ n. IsHead (state (store self.now)) id n.now) }
+        ensures none { IsNone result → length (store self.now).nodes ≤ id.0 }
     {
-        if (id.0 as u64) < self.count {
-            Some(self.bindings.head(id))
-        } else {
-            None
-        }
+        self.table.head(id)
     }
 
     /// The type of an unknown of the item, a new variable where it had none.
@@ -117,7 +93,7 @@ impl Solver {
         if let Some(id) = self.ids.find(unknown) {
             return Ok(id);
         }
-        let id = self.fresh()?;
+        let id = self.table.fresh()?;
         self.ids.insert(unknown, id)?;
         Ok(id)
     }
