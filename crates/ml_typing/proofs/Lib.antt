@@ -1,1 +1,2 @@
 mod Typings
+mod Faults
