@@ -1,2 +1,3 @@
 mod Typings
 mod Faults
+mod Renamed
