@@ -1,3 +1,4 @@
 mod Typings
 mod Faults
 mod Renamed
+mod Alike

@@ -22,6 +22,12 @@ shape_and_same s r ss rs p q = cc
 tree_and_same : (s r : Tree) (ss rs : Trees) → s ≡ r → ss ≡ rs → Cons s ss ≡ Cons r rs
 tree_and_same s r ss rs p q = cc
 
+make_same : (h k : Head) (ss rs : Shapes) → h ≡ k → ss ≡ rs → Make h ss ≡ Make k rs
+make_same h k ss rs p q = cc
+
+list_same : (x y : Shape) (xs ys : List Shape) → x ≡ y → xs ≡ ys → x ∷ xs ≡ y ∷ ys
+list_same x y xs ys p q = cc
+
 -- a type over unknowns at other such types of its unknowns
 abbrev mutual
   pub at_shapes : (Unknown → Shape) → Shape → Shape
@@ -130,3 +136,119 @@ module _ (uses : ℕ → Option ℕ) (c d : Context) (alike : IsAlike c d) where
 
   top_same : (b n : ℕ) → names_this (uses n) b ≡ true → at_shapes by (top (d.scheme b) b n) ≡ top (c.scheme b) b n
   top_same b n h = top_by (c.scheme b) (d.scheme b) (alike.scheme b) b n (λ k. used_of (uses n) b n k h)
+
+  -- lists of types
+  fresh_same : (n k at : ℕ) → names_none (uses n) ≡ true → all_at_shapes by (shapes (fresh_from n k at)) ≡ shapes (fresh_from n k at)
+  fresh_same n zero at h = refl
+  fresh_same n (suc k) at h = shape_and_same _ _ _ _ (fresh_own n at (uses n) h) (fresh_same n k (at + 1) h)
+
+  made_same : (q n : ℕ) (o : Option DeclInfo) → names_none (uses n) ≡ true → at_shapes by (made q n o) ≡ made q n o
+  made_same q n None h = refl
+  made_same q n (Some info) h = ap (Make (ConHead q info.vars)) (fresh_same n info.vars 0 h)
+
+  shapes_same : (xs ys : List Shape) → map (at_shapes by) xs ≡ ys → all_at_shapes by (shapes xs) ≡ shapes ys
+  shapes_same [] ys e = ap shapes e
+  shapes_same (x ∷ xs) ys e = ap (shape_and (at_shapes by x)) (shapes_same xs (map (at_shapes by) xs) refl) ∙ ap shapes e
+
+  length_same : (xs : List Shape) → length (map (at_shapes by) xs) ≡ length xs
+  length_same [] = refl
+  length_same (x ∷ xs) = ap (λ n. suc n) (length_same xs)
+
+  product_same : (xs : List Shape) → at_shapes by (product xs) ≡ product (map (at_shapes by) xs)
+  product_same [] = refl
+  product_same (x ∷ []) = refl
+  product_same (x ∷ y ∷ xs) =
+      make_same _ _ _ _ (ap (λ n. TupleHead (n + 2)) (sym (length_same xs))) (ap (λ z. shape_and (at_shapes by x) (shape_and (at_shapes by y) z)) (shapes_same xs (map (at_shapes by) xs) refl))
+
+  arguments_same : (n : ℕ) (xs : List ArgInfo) → names_none (uses n) ≡ true → map (at_shapes by) (map (λ (a : ArgInfo). at_fresh n (d.declared a.ty)) xs) ≡ map (λ (a : ArgInfo). at_fresh n (c.declared a.ty)) xs
+  arguments_same n [] h = refl
+  arguments_same n (x ∷ xs) h =
+      list_same _ _ _ _ (at_fresh_same n (d.declared x.ty) h ∙ ap (λ (f : TyId → Tree). at_fresh n (f x.ty)) alike.declared) (arguments_same n xs h)
+
+  function_same : (xs : List Shape) (r : Shape) → at_shapes by (function xs r) ≡ function (map (at_shapes by) xs) (at_shapes by r)
+  function_same [] r = refl
+  function_same (x ∷ xs) r = ap (λ s. Make ArrowHead (shape_and (at_shapes by x) (shape_and s no_shapes))) (function_same xs r)
+
+  shape_at_same : (xs : List Shape) (n : ℕ) → at_shapes by (shape_at xs n) ≡ shape_at (map (at_shapes by) xs) n
+  shape_at_same [] n = refl
+  shape_at_same (x ∷ xs) zero = refl
+  shape_at_same (x ∷ xs) (suc n) = shape_at_same xs n
+
+  alias_same : (f : TyId → Tree) (q : ℕ) (xs : List Shape) (o : Option TyId) → at_shapes by (elim o as (λ z. Shape) [ None ↦ Make (ConHead q (length xs)) (shapes xs) | Some body ↦ with_shapes (shape_at xs) (f body) ]) ≡ elim o as (λ z. Shape) [ None ↦ Make (ConHead q (length (map (at_shapes by) xs))) (shapes (map (at_shapes by) xs)) | Some body ↦ with_shapes (shape_at (map (at_shapes by) xs)) (f body) ]
+  alias_same f q xs None = make_same _ _ _ _ (ap (ConHead q) (sym (length_same xs))) (shapes_same xs (map (at_shapes by) xs) refl)
+  alias_same f q xs (Some body) = with_at by (shape_at xs) (shape_at (map (at_shapes by) xs)) (shape_at_same xs) (f body)
+
+  named_same : (f : TyId → Tree) (q : ℕ) (xs : List Shape) (o : Option DeclInfo) → at_shapes by (named f q xs o) ≡ named f q (map (at_shapes by) xs) o
+  named_same f q xs None = make_same _ _ _ _ (ap (ConHead q) (sym (length_same xs))) (shapes_same xs (map (at_shapes by) xs) refl)
+  named_same f q xs (Some info) = alias_same f q xs info.alias
+
+  made_here : (q n : ℕ) → names_none (uses n) ≡ true → at_shapes by (made q n (slice_get d.decls q)) ≡ made q n (slice_get c.decls q)
+  made_here q n h = made_same q n (slice_get d.decls q) h ∙ ap (λ (ds : List DeclInfo). made q n (slice_get ds q)) alike.decls
+
+  argument_same : (n : ℕ) (o : Option ConInfo) → names_none (uses n) ≡ true → at_shapes by (argument d.declared n o) ≡ argument c.declared n o
+  argument_same n None h = refl
+  argument_same n (Some con) h = product_same (map (λ (a : ArgInfo). at_fresh n (d.declared a.ty)) con.args) ∙ ap product (arguments_same n con.args h)
+
+  argument_here : (q k n : ℕ) → names_none (uses n) ≡ true → at_shapes by (argument d.declared n (slice_get (cons_of (slice_get d.decls q)) k)) ≡ argument c.declared n (slice_get (cons_of (slice_get c.decls q)) k)
+  argument_here q k n h = argument_same n (slice_get (cons_of (slice_get d.decls q)) k) h ∙ ap (λ (ds : List DeclInfo). argument c.declared n (slice_get (cons_of (slice_get ds q)) k)) alike.decls
+
+  field_same : (n : ℕ) (o : Option FieldInfo) → names_none (uses n) ≡ true → at_shapes by (field d.declared n o) ≡ field c.declared n o
+  field_same n None h = refl
+  field_same n (Some g) h = at_fresh_same n (d.declared g.arg.ty) h ∙ ap (λ (f : TyId → Tree). at_fresh n (f g.arg.ty)) alike.declared
+
+  field_here : (q k n : ℕ) → names_none (uses n) ≡ true → at_shapes by (field d.declared n (slice_get (fields_of (slice_get d.decls q)) k)) ≡ field c.declared n (slice_get (fields_of (slice_get c.decls q)) k)
+  field_here q k n h = field_same n (slice_get (fields_of (slice_get d.decls q)) k) h ∙ ap (λ (ds : List DeclInfo). field c.declared n (slice_get (fields_of (slice_get ds q)) k)) alike.decls
+
+  named_here : (q : ℕ) (xs ys : List Shape) → map (at_shapes by) xs ≡ ys → at_shapes by (named d.declared q xs (slice_get d.decls q)) ≡ named c.declared q ys (slice_get c.decls q)
+  named_here q xs ys e =
+      named_same d.declared q xs (slice_get d.decls q) ∙ ap (λ (f : TyId → Tree). named f q (map (at_shapes by) xs) (slice_get d.decls q)) alike.declared
+      ∙ ap (λ (ds : List DeclInfo). named c.declared q (map (at_shapes by) xs) (slice_get ds q)) alike.decls ∙ ap (λ zs. named c.declared q zs (slice_get c.decls q)) e
+
+  tuple_all : (xs ys : List Shape) → map (at_shapes by) xs ≡ ys → at_shapes by (Make (TupleHead (length xs)) (shapes xs)) ≡ Make (TupleHead (length ys)) (shapes ys)
+  tuple_all xs ys e = make_same _ _ _ _ (ap TupleHead (sym (length_same xs) ∙ ap length e)) (shapes_same xs ys e)
+
+  function_all : (xs ys : List Shape) (r q : Shape) → map (at_shapes by) xs ≡ ys → at_shapes by r ≡ q → at_shapes by (function xs r) ≡ function ys q
+  function_all xs ys r q e g = function_same xs r ∙ ap (λ zs. function zs (at_shapes by r)) e ∙ ap (function ys) g
+
+  -- by induction over a term
+  abbrev Same : Term → Type 0
+  Same x = apart uses x ≡ true → at_shapes by (shape_of d x) ≡ shape_of c x
+
+  abbrev TermPart : Type 0
+  TermPart = (x : Term) × Same x
+
+  abbrev layer : Term-F TermPart → Term-F Term
+  layer y = map-Term TermPart Term (λ q. q.0) y
+
+  cond_first : (x y : Bool) → cond x y false ≡ true → x ≡ true
+  cond_first true y h = refl
+  cond_first false y h = absurd cc
+
+  cond_second : (x y : Bool) → cond x y false ≡ true → y ≡ true
+  cond_second true y h = h
+  cond_second false y h = absurd cc
+
+  all_same : (ys : List TermPart) → all_true (map (apart uses) (map (λ q. q.0) ys)) ≡ true → map (at_shapes by) (map (shape_of d) (map (λ q. q.0) ys)) ≡ map (shape_of c) (map (λ q. q.0) ys)
+  all_same [] h = refl
+  all_same (y ∷ ys) h = list_same _ _ _ _ (y.1 (cond_first _ _ h)) (all_same ys (cond_second _ _ h))
+
+  step_same : (y : Term-F TermPart) → apart_step uses (map-Term Term Bool (apart uses) (layer y)) ≡ true → at_shapes by (term_step d (map-Term Term Shape (shape_of d) (layer y))) ≡ term_step c (map-Term Term Shape (shape_of c) (layer y))
+  step_same (t.Of v) h = own_same v h
+  step_same (t.Top b n) h = top_same b n h
+  step_same (t.Operation op n) h = at_fresh_same n (d.operation op) h ∙ ap (λ f. at_fresh n (f op)) alike.operation
+  step_same (t.Made q n) h = made_here q n h
+  step_same (t.Argument q k n) h = argument_here q k n h
+  step_same (t.Field q k n) h = field_here q k n h
+  step_same (t.Con q args) h = named_here q _ _ (all_same args h)
+  step_same (t.Tuple parts) h = tuple_all _ _ (all_same parts h)
+  step_same (t.Function params result) h = function_all _ _ _ _ (all_same params (cond_first _ _ h)) (result.1 (cond_second _ _ h))
+
+  term_case : (l : Term-F Term) (y : Term-F TermPart) → layer y ≡ l → Same (roll-Term l)
+  term_case l y same h =
+      let tested : apart_step uses (map-Term Term Bool (apart uses) l) ≡ true = sym (fold-roll-Term Bool (apart_step uses) l) ∙ h in
+      ap (at_shapes by) (fold-roll-Term Shape (term_step d) l)
+      ∙ subst (λ (m : Term-F Term). apart_step uses (map-Term Term Bool (apart uses) m) ≡ true → at_shapes by (term_step d (map-Term Term Shape (shape_of d) m)) ≡ term_step c (map-Term Term Shape (shape_of c) m)) same (step_same y) tested
+      ∙ sym (fold-roll-Term Shape (term_step c) l)
+
+  pub shape_same : (x : Term) → apart uses x ≡ true → at_shapes by (shape_of d x) ≡ shape_of c x
+  shape_same x = ind-Term Same term_case x
