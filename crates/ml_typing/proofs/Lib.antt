@@ -2,3 +2,4 @@ mod Typings
 mod Faults
 mod Renamed
 mod Alike
+mod Programs

@@ -1,5 +1,5 @@
 -- What the laws of typing speak of.
-use Rattle.std.specs.Prelude.{◌≡◌, ℕ, Bool, true, false, cond, nat_eq, List, [], ◌∷◌, Option, Some, None}
+use Rattle.std.specs.Prelude.{◌≡◌, ℕ, Bool, true, false, cond, nat_eq, List, [], ◌∷◌, Option, Some, None, slice_get}
 use Rattle.ml_types.specs.Types.{Tree, Leaf}
 use Rattle.ml_typing.specs.declared.equation.Unknown.{Unknown}
 use Rattle.ml_typing.specs.declared.equation.Unknown.TheVariants as u
@@ -73,6 +73,8 @@ StepsApart uses (s ∷ ss) = AllApart uses s.equations × StepsApart uses ss
 pub record IsApart (uses : ℕ → Option ℕ) (item : ItemSteps) : Type 0 where
   pub steps : StepsApart uses item.steps
   pub binders : (c : Context) (b : ℕ) → is_among item.binders b ≡ true → Occurs (u.Binder b) (pairs c item.steps)
+  pub operands : (c : Context) (i : ℕ) (s : Step) (v : Unknown) → slice_get item.steps i ≡ Some s → s.compared ≡ Some v → Occurs v (pairs c item.steps)
+  pub operands_own : (i : ℕ) (s : Step) (v : Unknown) → slice_get item.steps i ≡ Some s → s.compared ≡ Some v → is_own uses v ≡ true
 
 abbrev pub ItemsApart : (ℕ → Option ℕ) → List ItemSteps → Type 0
 ItemsApart uses [] = Unit {0}
