@@ -118,10 +118,10 @@ fit_before_large c steps m span (a, h, small) f l =
     absurd (omega arith)
 
 -- numbers of which neither is less
-same_number : (k m : ℕ) → ((k < m) → ⊥) → ((m < k) → ⊥) → k ≡ m
+pub same_number : (k m : ℕ) → ((k < m) → ⊥) → ((m < k) → ⊥) → k ≡ m
 same_number k m f g = ⊎_elim (λ (l : k < m). absurd (f l)) (λ (l : m ≤ k). ⊎_elim (λ (r : m < k). absurd (g r)) (λ (r : k ≤ m). omega arith) (cases_lt m k)) (cases_lt k m)
 
-one_value : {A : Type 0} (xs : List A) (k m : ℕ) (x y : A) → k ≡ m → slice_get xs k ≡ Some x → slice_get xs m ≡ Some y → x ≡ y
+pub one_value : {A : Type 0} (xs : List A) (k m : ℕ) (x y : A) → k ≡ m → slice_get xs k ≡ Some x → slice_get xs m ≡ Some y → x ≡ y
 one_value xs k m x y e p q = let h : Some x ≡ Some y = sym p ∙ ap (slice_get xs) e ∙ q in cc
 
 -- two faults are at one step

@@ -3,3 +3,4 @@ mod Faults
 mod Renamed
 mod Alike
 mod Programs
+mod Comparisons

@@ -21,7 +21,7 @@ scheme_case : (x : Bool) (p q : Tree) (o r : Option Tree) → (x ≡ true → Is
 scheme_case true p q o r h k = h refl
 scheme_case false p q o r h k = k
 
-instance_of : (uses : ℕ → Option ℕ) (c d : Context) (there : IsAlike c d) (item : ItemSteps) (a b : Assignment) → StepsApart uses item.steps → Satisfies a (pairs c item.steps) → IsPrincipal (pairs d item.steps) b → (v : Unknown) → is_own uses v ≡ true → Occurs v (pairs d item.steps) → IsAt (a v) (b v)
+pub instance_of : (uses : ℕ → Option ℕ) (c d : Context) (there : IsAlike c d) (item : ItemSteps) (a b : Assignment) → StepsApart uses item.steps → Satisfies a (pairs c item.steps) → IsPrincipal (pairs d item.steps) b → (v : Unknown) → is_own uses v ≡ true → Occurs v (pairs d item.steps) → IsAt (a v) (b v)
 instance_of uses c d there item a b h solves principal v own occurs =
     let i : IsInstance b (moved uses c d there a) (pairs d item.steps) = principal.instances (moved uses c d there a) (solves_too uses c d there a _ _ (steps_same uses c d there item.steps h) solves) in
     (i.types, sym (moved_same uses c d there a v own) ∙ i.each v occurs)
@@ -71,8 +71,16 @@ large_fault uses span = record {
 first_fits : (c : Context) (i : ItemSteps) (is : List ItemSteps) (a : Assignment) (types : List Assignment) → HasTypes c (i ∷ is) (a ∷ types) → Fits c i.steps
 first_fits c i is a types h = (a, h.typed.0.typing, h.small.0)
 
-rest_typed : (c : Context) (i : ItemSteps) (is : List ItemSteps) (a : Assignment) (types : List Assignment) → HasTypes c (i ∷ is) (a ∷ types) → HasTypes (behind c a i.binders) is types
+pub rest_typed : (c : Context) (i : ItemSteps) (is : List ItemSteps) (a : Assignment) (types : List Assignment) → HasTypes c (i ∷ is) (a ∷ types) → HasTypes (behind c a i.binders) is types
 rest_typed c i is a types h = record { typed = h.typed.1; small = h.small.1 }
+
+-- what two first faults have in common: the items before theirs, and one context and item of both
+pub record Meeting (P Q : Context → List Step → Type 0) (before others : List ItemSteps) (item other : ItemSteps) : Type 0 where
+  pub items : before ≡ others
+  pub item_is : item ≡ other
+  pub context : Context
+  pub one : P context item.steps
+  pub two : Q context item.steps
 
 items_same : (i j : ItemSteps) (is js : List ItemSteps) → i ≡ j → is ≡ js → i ∷ is ≡ j ∷ js
 items_same i j is js p q = cc
@@ -90,15 +98,7 @@ module _ (uses : ℕ → Option ℕ) (P : Context → List Step → Type 0) (fau
       no_fault (behind c a i.binders) (behind d b i.binders) (behind_alike uses c d alike i a b h.0 k.typed.0 m.typed.0) before others item after types h.1
         (rest_typed c i (before ++ item ∷ after) a types k) (rest_typed d i before b others m) f
 
-  -- what two first faults have in common: the items before theirs, and one context and item of both
-  pub record Meeting (Q : Context → List Step → Type 0) (before others : List ItemSteps) (item other : ItemSteps) : Type 0 where
-    pub items : before ≡ others
-    pub item_is : item ≡ other
-    pub context : Context
-    pub one : P context item.steps
-    pub two : Q context item.steps
-
-  pub meet : (Q : Context → List Step → Type 0) → IsFault uses Q → (c d : Context) → IsAlike c d → (before others : List ItemSteps) (types kinds : List Assignment) (item other : ItemSteps) (after rest : List ItemSteps) → before ++ item ∷ after ≡ others ++ other ∷ rest → ItemsApart uses (before ++ item ∷ after) → HasTypes c before types → HasTypes d others kinds → P (behind_all c types before) item.steps → Q (behind_all d kinds others) other.steps → Meeting Q before others item other
+  pub meet : (Q : Context → List Step → Type 0) → IsFault uses Q → (c d : Context) → IsAlike c d → (before others : List ItemSteps) (types kinds : List Assignment) (item other : ItemSteps) (after rest : List ItemSteps) → before ++ item ∷ after ≡ others ++ other ∷ rest → ItemsApart uses (before ++ item ∷ after) → HasTypes c before types → HasTypes d others kinds → P (behind_all c types before) item.steps → Q (behind_all d kinds others) other.steps → Meeting P Q before others item other
   meet Q q c d alike (i ∷ before) others [] kinds item other after rest e h k m f g = absurd k.typed
   meet Q q c d alike [] others (a ∷ types) kinds item other after rest e h k m f g = absurd k.typed
   meet Q q c d alike before (j ∷ others) types [] item other after rest e h k m f g = absurd m.typed
@@ -117,5 +117,36 @@ module _ (uses : ℕ → Option ℕ) (P : Context → List Step → Type 0) (fau
       let further : before ++ item ∷ after ≡ others ++ other ∷ rest = cc in
       let typed : HasTypes d (i ∷ others) (b ∷ kinds) = subst (λ (x : ItemSteps). HasTypes d (x ∷ others) (b ∷ kinds)) same m in
       let there : Q (behind_all (behind d b i.binders) kinds others) other.steps = subst (λ (x : ItemSteps). Q (behind_all (behind d b x.binders) kinds others) other.steps) same g in
-      let met : Meeting Q before others item other = meet Q q (behind c a i.binders) (behind d b i.binders) (behind_alike uses c d alike i a b h.0 k.typed.0 typed.typed.0) before others types kinds item other after rest further h.1 (rest_typed c i before a types k) (rest_typed d i others b kinds typed) f there in
+      let met : Meeting P Q before others item other = meet Q q (behind c a i.binders) (behind d b i.binders) (behind_alike uses c d alike i a b h.0 k.typed.0 typed.typed.0) before others types kinds item other after rest further h.1 (rest_typed c i before a types k) (rest_typed d i others b kinds typed) f there in
       record { items = items_same i j before others (sym same) met.items; item_is = met.item_is; context = met.context; one = met.one; two = met.two }
+
+-- first faults of a program
+typed_or_fault : (uses : ℕ → Option ℕ) (P : Context → List Step → Type 0) → IsFault uses P → (c : Context) (items : List ItemSteps) (types : List Assignment) → ItemsApart uses items → HasTypes c items types → FirstFault c items P → ⊥
+typed_or_fault uses P fault c items types h k f =
+    no_fault uses P fault c c (alike_self c) f.before f.types f.item f.after types
+      (subst (ItemsApart uses) f.split h) (subst (λ (is : List ItemSteps). HasTypes c is types) f.split k) f.typed f.fault
+
+two_faults : (uses : ℕ → Option ℕ) (P Q : Context → List Step → Type 0) → IsFault uses P → IsFault uses Q → (c : Context) (items : List ItemSteps) → ItemsApart uses items → (f : FirstFault c items P) → (g : FirstFault c items Q) → Meeting P Q f.before g.before f.item g.item
+two_faults uses P Q p q c items h f g =
+    meet uses P p Q q c c (alike_self c) f.before g.before f.types g.types f.item g.item f.after g.after (sym f.split ∙ g.split) (subst (ItemsApart uses) f.split h) f.typed g.typed f.fault g.fault
+
+pub typed_or_unsolved : (uses : ℕ → Option ℕ) (c : Context) (items : List ItemSteps) (types : List Assignment) (rule : ℕ) (span : Span) → ItemsApart uses items → HasTypes c items types → FirstFault c items (λ e ss. IsUnsolved e ss rule span) → ⊥
+typed_or_unsolved uses c items types rule span h k f = typed_or_fault uses _ (unsolved_fault uses rule span) c items types h k f
+
+pub typed_or_large : (uses : ℕ → Option ℕ) (c : Context) (items : List ItemSteps) (types : List Assignment) (span : Span) → ItemsApart uses items → HasTypes c items types → FirstFault c items (λ e ss. IsTooLarge e ss span) → ⊥
+typed_or_large uses c items types span h k f = typed_or_fault uses _ (large_fault uses span) c items types h k f
+
+pub first_unsolved_once : (uses : ℕ → Option ℕ) (c : Context) (items : List ItemSteps) (rule rule' : ℕ) (span span' : Span) → ItemsApart uses items → FirstFault c items (λ e ss. IsUnsolved e ss rule span) → FirstFault c items (λ e ss. IsUnsolved e ss rule' span') → (rule ≡ rule') × (span ≡ span')
+first_unsolved_once uses c items rule rule' span span' h f g =
+    let m : Meeting (λ e ss. IsUnsolved e ss rule span) (λ e ss. IsUnsolved e ss rule' span') f.before g.before f.item g.item = two_faults uses _ _ (unsolved_fault uses rule span) (unsolved_fault uses rule' span') c items h f g in
+    unsolved_once m.context f.item.steps rule rule' span span' m.one m.two
+
+pub first_large_once : (uses : ℕ → Option ℕ) (c : Context) (items : List ItemSteps) (span span' : Span) → ItemsApart uses items → FirstFault c items (λ e ss. IsTooLarge e ss span) → FirstFault c items (λ e ss. IsTooLarge e ss span') → span ≡ span'
+first_large_once uses c items span span' h f g =
+    let m : Meeting (λ e ss. IsTooLarge e ss span) (λ e ss. IsTooLarge e ss span') f.before g.before f.item g.item = two_faults uses _ _ (large_fault uses span) (large_fault uses span') c items h f g in
+    large_once m.context f.item.steps span span' m.one m.two
+
+pub first_unsolved_or_large : (uses : ℕ → Option ℕ) (c : Context) (items : List ItemSteps) (rule : ℕ) (span span' : Span) → ItemsApart uses items → FirstFault c items (λ e ss. IsUnsolved e ss rule span) → FirstFault c items (λ e ss. IsTooLarge e ss span') → ⊥
+first_unsolved_or_large uses c items rule span span' h f g =
+    let m : Meeting (λ e ss. IsUnsolved e ss rule span) (λ e ss. IsTooLarge e ss span') f.before g.before f.item g.item = two_faults uses _ _ (unsolved_fault uses rule span) (large_fault uses span') c items h f g in
+    unsolved_or_large m.context f.item.steps rule span span' m.one m.two
