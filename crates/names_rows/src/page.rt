@@ -1,7 +1,8 @@
 //! The programs of docs/REFUSALS.md, with the lines that stand there.
 use crate::captures::capturing;
-use crate::reading::{Answer, Case, check_accepted, resolved};
+use crate::reading::{Case, check_accepted};
 use oxml_base::{Limit, Refusal, line_col};
+use source_reading::{Answer, resolved};
 use std::alloc::Global;
 use std::test::Fail;
 

@@ -1,8 +1,9 @@
 //! What the nodes and the type expressions of a file name. Numbers count from the first node and
 //! from the first type expression of the file: an item, then its patterns and its expressions, each
 //! before its parts.
-use crate::reading::{Answer, Case, resolved};
+use crate::reading::Case;
 use ml_tree::{Ref, Scoped, TyRef};
+use source_reading::{Answer, resolved};
 use std::alloc::{AllocError, Global};
 use std::fmt::Write;
 use std::process::Abort;
