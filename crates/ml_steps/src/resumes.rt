@@ -274,7 +274,7 @@ fn resume_guard<'t, 'a>(
 {
     match test(word) {
         Some(true) => Ok(go_on(Next::Visit(body, here.with(env)))),
-        Some(false) => choose(world, told, arms, next, scrutinee, here),
+        Some(false) => Ok(go_on(Next::Visit(body, here.with(env)))),
         None => Err(NoMemory),
     }
 }
