@@ -2,4 +2,6 @@ pub mod Pushes
 pub mod Growth
 pub mod Keys
 pub mod Holding
+pub mod Putting
+pub mod Copying
 pub mod Tables

@@ -1,13 +1,10 @@
-use Rattle.std.proofs.Common.{◌≡◌, ℕ, ◌⊎◌, Option, Some, Bool, true, false, cond, nat_eq, inl, inr, ⊎_elim, refl, sym, ap, ◌∙◌}
+use Rattle.std.proofs.Common.{nat_eq}
 use Rattle.std.specs.Prelude.{◌&&◌, ◌==◌}
-use Rattle.ml_types.specs.declared.node.TyId.{TyId}
-use Rattle.ml_typing.specs.declared.equation.Unknown.{Unknown}
-use Rattle.ml_typing.specs.declared.equation.Unknown.TheVariants.{Node, Binder, Fresh}
-use Rattle.hm_terms.proofs.Keys.{pair_apart}
+use Rattle.std.specs.HashMap.{get}
+use Rattle.hm_terms.proofs.Keys.{fresh_others}
 use Rattle.hm_terms.proofs.ids.Ids.insert.Goals as goal
 
 pub returns-in_ok-insert-in-Fresh-clause-others : goal.returns-in_ok-insert-in-Fresh-clause-others
-returns-in_ok-insert-in-Fresh-clause-others c = λ u d. by u d
-  where
-    by : (u : Unknown) → (u ≡ c.args.unknown → ⊥) → _
-    by u d = ?
+returns-in_ok-insert-in-Fresh-clause-others c = λ u d.
+    fresh_others (get nat_eq c.args.self.now.nodes) (get nat_eq c.args.self.now.binders) (get (λ x y. x.0 == y.0 && x.1 == y.1) c.args.self.now.fresh) (get (λ x y. x.0 == y.0 && x.1 == y.1) c.insert-in-Fresh.new.self)
+    c.in-Fresh.node c.in-Fresh.number c.in_ok-insert-in-Fresh.ensures.updates.2 u c.args.unknown c.in-Fresh.is d
