@@ -18,10 +18,10 @@ use Rattle.hm_terms.proofs.Holding.{grows_node, node_holds, node_lowers, holds_g
 use Rattle.hm_terms.proofs.Putting.{puts_grow}
 
 -- one copy more
-copied_more : (first old new : Store) (f : ℕ → Shape) (copies more : Table) (id x : TyId) → IsReady old → Grows old new → ((q : ℕ) → more q ≡ cond (nat_eq id.0 q) (Some x) (copies q)) → Copied first old f copies → ((w : Tree) → Stands first.nodes first.bound id w → Holds new (with_shapes f w) x) → Copied first new f more
-copied_more first old new f copies more id x r g update k h = λ q y p w stands. by q y p w stands (eqb_tells id.0 q)
+copied_more : (first old new : Store) (f : ℕ → Shape) (copies later : Table) (id x : TyId) → IsReady old → Grows old new → ((q : ℕ) → later q ≡ cond (nat_eq id.0 q) (Some x) (copies q)) → Copied first old f copies → ((w : Tree) → Stands first.nodes first.bound id w → Holds new (with_shapes f w) x) → Copied first new f later
+copied_more first old new f copies later id x r g update k h = λ q y p w stands. by q y p w stands (eqb_tells id.0 q)
   where
-    by : (q : ℕ) (y : TyId) → more q ≡ Some y → (w : Tree) → Stands first.nodes first.bound (record { 0 = q }) w → ((nat_eq id.0 q ≡ true) × (id.0 ≡ q)) ⊎ ((nat_eq id.0 q ≡ false) × (id.0 ≡ q → ⊥)) → Holds new (with_shapes f w) y
+    by : (q : ℕ) (y : TyId) → later q ≡ Some y → (w : Tree) → Stands first.nodes first.bound (record { 0 = q }) w → ((nat_eq id.0 q ≡ true) × (id.0 ≡ q)) ⊎ ((nat_eq id.0 q ≡ false) × (id.0 ≡ q → ⊥)) → Holds new (with_shapes f w) y
     by q y p w stands (inl e) =
         let there : Some x ≡ Some y = sym (update q ∙ ap (λ b. cond b (Some x) (copies q)) e.0) ∙ p in
         let same : x ≡ y = cc in
@@ -39,13 +39,13 @@ head_is first s r g id e n m ends at is =
     let here : Some n ≡ Some m = sym (node_old first s l e n at) ∙ ap (node_at s.nodes) same ∙ is.2 in
     cc
 
-pub copies_variable : (old new : Store) (put : Put) (copies more : Table) (id x : TyId) (number : ℕ) → ((f : ℕ → Shape) → IsReady old → Puts old put f → Lowers old new (f number) x) → ((q : ℕ) → more q ≡ cond (nat_eq id.0 q) (Some x) (copies q)) → IsHead (state old) id (Var number) → Copies old new put copies more
-copies_variable old new put copies more id x number lowers update head = λ first f r g puts k. answer first f r g puts k
+pub copies_variable : (old new : Store) (put : Put) (copies later : Table) (id x : TyId) (number : ℕ) → ((f : ℕ → Shape) → IsReady old → Puts old put f → Lowers old new (f number) x) → ((q : ℕ) → later q ≡ cond (nat_eq id.0 q) (Some x) (copies q)) → IsHead (state old) id (Var number) → Copies old new put copies later
+copies_variable old new put copies later id x number lowers update head = λ first f r g puts k. answer first f r g puts k
   where
-    answer : (first : Store) (f : ℕ → Shape) → IsReady first → Grows first old → Puts first put f → Copied first old f copies → Grows old new × Copied first new f more
+    answer : (first : Store) (f : ℕ → Shape) → IsReady first → Grows first old → Puts first put f → Copied first old f copies → Grows old new × Copied first new f later
     answer first f r g puts k =
         let l = lowers f (g.ready r) (puts_grow first old r g put f puts) in
-        (l.grows, copied_more first old new f copies more id x (g.ready r) l.grows update k (λ w stands. holds id w refl stands l.holds))
+        (l.grows, copied_more first old new f copies later id x (g.ready r) l.grows update k (λ w stands. holds id w refl stands l.holds))
       where
         holds : (y : TyId) (w : Tree) → y ≡ id → Stands first.nodes first.bound y w → Holds new (f number) x → Holds new (with_shapes f w) x
         holds y w is (variable z e n ends at) h =
@@ -77,8 +77,8 @@ hold_copies first s f copies k ps (q ∷ qs) ws (more x ys w us one all) are =
     let rest : map (λ (p : TyId). copies p.0) ys ≡ map Some qs = cc in
     (k x.0 q here w one, hold_copies first s f copies k ys qs us all rest)
 
-pub copies_node : (old new : Store) (put : Put) (copies more : Table) (id x : TyId) → Rebuilt old new copies id x → ((q : ℕ) → more q ≡ cond (nat_eq id.0 q) (Some x) (copies q)) → Copies old new put copies more
-copies_node old new put copies more id x b update = λ first f r g puts k. answer first f r g puts k
+pub copies_node : (old new : Store) (put : Put) (copies later : Table) (id x : TyId) → Rebuilt old new copies id x → ((q : ℕ) → later q ≡ cond (nat_eq id.0 q) (Some x) (copies q)) → Copies old new put copies later
+copies_node old new put copies later id x b update = λ first f r g puts k. answer first f r g puts k
   where
     grows_by : ((new ≡ old) × (x ≡ id) × (parts_of b.node ≡ b.others)) ⊎ ((m : TyNode) × (head_of m ≡ Some b.head) × (parts_of m ≡ b.others) × AddsNode old new m x) → Grows old new
     grows_by (inl same) = subst (Grows old) (sym same.0) (grows_same old)
@@ -92,9 +92,9 @@ copies_node old new put copies more id x b update = λ first f r g puts k. answe
     holds_by r within hs all (inr made) =
         (node_lowers old new made.0 b.head x r made.3 made.1 hs (subst (HoldAll old hs) (sym made.2) all)).holds
 
-    answer : (first : Store) (f : ℕ → Shape) → IsReady first → Grows first old → Puts first put f → Copied first old f copies → Grows old new × Copied first new f more
+    answer : (first : Store) (f : ℕ → Shape) → IsReady first → Grows first old → Puts first put f → Copied first old f copies → Grows old new × Copied first new f later
     answer first f r g puts k =
-        (grows_by b.made, copied_more first old new f copies more id x (g.ready r) (grows_by b.made) update k (λ w stands. holds id w refl stands))
+        (grows_by b.made, copied_more first old new f copies later id x (g.ready r) (grows_by b.made) update k (λ w stands. holds id w refl stands))
       where
         grown_within : (z e : TyId) (n : TyNode) → Ends first.nodes first.bound z e → node_at first.nodes e ≡ Some n → z.0 < length old.nodes
         grown_within z e n ends at = omega (arith, ends_within first z e n ends at, length_longer first old (longer first old g))

@@ -1,5 +1,5 @@
 //! Instances of types: their variables at other types. Only the parts that hold variables are copied.
-ghost use Rattle.std.specs.Prelude.{◌≡◌, ℕ, IfOk, OnOk, IsTrue, Some, nat_eq};
+ghost use Rattle.std.specs.Prelude.{◌≡◌, ℕ, IfOk, OnOk, IsTrue, Some, nat_eq, slice_get};
 ghost use Rattle.std.specs.HashMap.{get};
 ghost use Rattle.ml_types.specs.Types.{Tree};
 ghost use Rattle.ml_types.specs.declared.node.TyNode.TheVariants.{Var};
@@ -33,14 +33,18 @@ fn type_for(solver: &mut Solver, put: Put, number: u32) -> Result<TyId, NoMemory
 {
     match put {
         Put::Fresh(node) => solver.unknown(Unknown::Fresh(node, number)),
-        Put::Arguments(args) => match args.get(number as usize) {
-            Some(id) => Ok(*id),
-            None => {
-                let none = Items::new(solver.alloc);
-                solver.add(TyNode::Tuple(none))
-            }
+        Put::Arguments(args) => match argument(args, number) {
+            Some(id) => Ok(id),
+            None => solver.nothing(),
         },
     }
+}
+
+/// The argument at a place.
+fn argument(args: &[TyId], number: u32) -> Option<TyId>
+    ensures { result ≡ slice_get args.now number }
+{
+    args.get(number as usize).copied()
 }
 
 /// A node whose parts before `next` have copies.

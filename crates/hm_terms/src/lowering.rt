@@ -183,8 +183,7 @@ fn product_type(solver: &mut Solver, ids: Items<TyId>) -> Result<TyId, NoMemory>
 fn nothing(solver: &mut Solver) -> Result<TyId, NoMemory>
     ensures { IfOk result (λ x. IsReady (store solver.old) → Lowers (store solver.old) (store solver.new) no_shape x) }
 {
-    let none = Items::new(solver.alloc);
-    solver.add(TyNode::Tuple(none))
+    solver.nothing()
 }
 
 /// A field of a record at the fresh types of a node.

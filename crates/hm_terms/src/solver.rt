@@ -1,7 +1,7 @@
 //! The solver of one item: its unknowns' types over the types of all items before it.
 ghost use Rattle.std.specs.Prelude.{◌≡◌, ◌+◌, ◌≤◌, ℕ, length, None, [], OnOk, OnErr, IfErr, IfOk, IfSome, IsNone, nat_eq, slice_get};
 ghost use Rattle.std.specs.HashMap.{get};
-ghost use Rattle.ml_types.specs.declared.node.TyNode.TheVariants.{Arrow};
+ghost use Rattle.ml_types.specs.declared.node.TyNode.TheVariants.{Arrow, Tuple};
 ghost use Rattle.ml_typing.specs.declared.equation.Unknown.{Unknown as UnknownValue};
 ghost use Rattle.hm_unify.specs.States.{IsTable, IsNew, IsHead, Equated, Refused};
 ghost use Rattle.hm_terms.specs.Stores.{store, state, id_of, AddsNode, Knows, SameNames};
@@ -13,7 +13,7 @@ use hm_unify::UnifyErr;
 use ml_tree::Op;
 use ml_types::{TyId, TyNode, TyTable};
 use ml_typing::Unknown;
-use oxml_base::NoMemory;
+use oxml_base::{Items, NoMemory};
 use std::alloc::Global;
 use std::collections::HashMap;
 
@@ -64,6 +64,14 @@ impl Solver {
         ensures slots { self.new.slots ≡ self.old.slots }
     {
         self.table.add(node)
+    }
+
+    /// The empty product.
+    pub fn nothing(&mut self) -> Result<TyId, NoMemory>
+        ensures { IfOk result (λ id. AddsNode (store self.old) (store self.new) (Tuple []) id) }
+    {
+        let none = Items::new(self.alloc);
+        self.add(TyNode::Tuple(none))
     }
 
     /// Makes the two of each pair equal.
