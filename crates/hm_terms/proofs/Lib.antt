@@ -4,4 +4,5 @@ pub mod Keys
 pub mod Holding
 pub mod Putting
 pub mod Copying
+pub mod Rebuilding
 pub mod Tables
