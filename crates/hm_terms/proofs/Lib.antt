@@ -5,4 +5,7 @@ pub mod Holding
 pub mod Putting
 pub mod Copying
 pub mod Rebuilding
+pub mod Building
+pub mod Contexts
+pub mod Layers
 pub mod Tables
