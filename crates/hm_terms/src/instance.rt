@@ -65,7 +65,7 @@ pub fn instance(solver: &mut Solver, root: TyId, put: Put) -> Result<TyId, NoMem
     stack.push(Frame { id: root, next: 0 })?;
     for _step in 0..u64::MAX {
         let Some(frame) = stack.pop() else {
-            return copies.get(&root.0).copied().ok_or(NoMemory);
+            return copy_of(&copies, root);
         };
         visit(solver, put, &mut copies, &mut stack, frame)?;
     }
@@ -164,7 +164,7 @@ fn rebuilt(solver: &mut Solver, copies: &HashMap<u32, TyId>, id: TyId) -> Result
             let to = *to;
             let first = copy_of(copies, from)?;
             let second = copy_of(copies, to)?;
-            if first == from && second == to {
+            if same_two(from, to, first, second) {
                 return Ok(id);
             }
             // An instance's arrow keeps the slot.
@@ -213,4 +213,11 @@ fn same_ids(left: &[TyId], right: &[TyId]) -> bool
         }
     }
     true
+}
+
+/// Whether two ids are two others.
+fn same_two(from: TyId, to: TyId, first: TyId, second: TyId) -> bool
+    ensures { IsTrue result → (first ≡ from) × (second ≡ to) }
+{
+    first.0 == from.0 && second.0 == to.0
 }
