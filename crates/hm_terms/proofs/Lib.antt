@@ -8,4 +8,5 @@ pub mod Rebuilding
 pub mod Building
 pub mod Contexts
 pub mod Layers
+pub mod Walking
 pub mod Tables

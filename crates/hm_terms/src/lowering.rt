@@ -1,5 +1,5 @@
 //! Terms of equations as types of the bindings.
-ghost use Rattle.std.specs.Prelude.{◌≡◌, IfOk, List, map, option_map, slice_get};
+ghost use Rattle.std.specs.Prelude.{◌≡◌, ◌+◌, ◌-◌, ◌<◌, IfOk, IfSome, IsNone, Some, List, [], ◌∷◌, length, map, option_map, slice_get};
 ghost use Rattle.ml_types.specs.declared.node.TyId.{TyId as TyIdValue};
 ghost use Rattle.ml_types.specs.declared.declared.ArgInfo.{ArgInfo as ArgValue};
 ghost use Rattle.ml_typing.specs.Terms.{Shape, Context, shape_of, top, made, argument, field, named, function, at_fresh, cons_of, fields_of, product, no_shape, fresh_from};
@@ -162,21 +162,42 @@ fn argument_types(
     ensures { IfOk result (λ xs. (declared : TyIdValue → Tree) → IsReady (store solver.old) → AllShow (store solver.old) declared args.now → LowersAll (store solver.old) (store solver.new) (map (λ (a : ArgValue). at_fresh node (declared a.ty)) args.now) xs) }
 {
     let mut ids = Items::new(solver.alloc);
-    for arg in args {
-        let id = fresh_instance(solver, arg.ty, node)?;
+    for number in 0..args.len() {
+        let Some(ty) = argument_at(args, number) else {
+            return Err(NoMemory)
+        };
+        let id = fresh_instance(solver, ty, node)?;
         ids.push(id)?;
     }
     Ok(ids)
+}
+
+/// The type of a field by its place.
+fn argument_at(args: &[ArgInfo], number: usize) -> Option<TyId>
+    ensures { result ≡ option_map (λ a. a.ty) (slice_get args.now number) }
+{
+    match at(args, number) {
+        Some(arg) => Some(arg.ty),
+        None => None,
+    }
 }
 
 /// The product of several types, or the one type.
 fn product_type(solver: &mut Solver, ids: Items<TyId>) -> Result<TyId, NoMemory>
     ensures { IfOk result (λ x. (hs : List Shape) → IsReady (store solver.old) → HoldAll (store solver.old) hs ids → Lowers (store solver.old) (store solver.new) (product hs) x) }
 {
-    if let [only] = ids.as_slice() {
-        return Ok(*only);
+    match only(ids.as_slice()) {
+        Some(id) => Ok(id),
+        None => solver.add(TyNode::Tuple(ids)),
     }
-    solver.add(TyNode::Tuple(ids))
+}
+
+/// The one id of a list.
+fn only(ids: &[TyId]) -> Option<TyId>
+    ensures some { IfSome result (λ x. ids.now ≡ x ∷ []) }
+    ensures none { IsNone result → length ids.now ≡ 1 → ⊥ }
+{
+    if ids.len() == 1 { Some(ids[0]) } else { None }
 }
 
 /// The empty product, for what is not there.
@@ -233,8 +254,20 @@ fn function_type(solver: &mut Solver, params: &[TyId], last: TyId) -> Result<TyI
 {
     let mut to = last;
     for done in 0..params.len() {
-        let from = params[params.len() - 1 - done];
+        let Some(from) = from_end(params, done) else {
+            return Err(NoMemory)
+        };
         to = solver.arrow(from, to)?;
     }
     Ok(to)
+}
+
+/// The id with so many behind it.
+fn from_end(params: &[TyId], done: usize) -> Option<TyId>
+    ensures { IfSome result (λ x. (done < length params.now) × (slice_get params.now (length params.now - (done + 1)) ≡ Some x)) }
+{
+    if done >= params.len() {
+        return None;
+    }
+    at(params, params.len() - (done + 1)).copied()
 }

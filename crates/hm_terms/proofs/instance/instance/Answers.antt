@@ -1,11 +1,12 @@
-use Rattle.std.proofs.Common.{◌≡◌, Some, None, sym, ◌∙◌}
+use Rattle.std.proofs.Common.{◌≡◌, Some, None, nat_eq, sym, ◌∙◌, rules}
+use Rattle.std.specs.HashMap.{get}
 use Rattle.std.proofs.lemmas.Result.{IfOk-weaker}
 use Rattle.hm_terms.specs.Stores.{store}
 use Rattle.hm_terms.proofs.Growth.{grows_same, grows_then}
 use Rattle.hm_terms.proofs.instance.instance.Goals as goal
 
 pub loop-step-init : goal.loop-step-init
-loop-step-init c = λ f r p. (grows_same (store c.args.solver.now), λ k y e w s. absurd (let g : None ≡ Some y = sym (c.new-copies.ensures.empty k) ∙ e in cc))
+loop-step-init c = λ f r p. (grows_same (store c.args.solver.now), λ k y e w s. absurd (let g : get nat_eq c.new-copies.result k ≡ None = search rules in let h : None ≡ Some y = sym g ∙ e in cc))
 
 pub loop-step-preserved : goal.loop-step-preserved
 loop-step-preserved c = λ f r p.
