@@ -1,15 +1,14 @@
 -- What holds of the equations of steps in one of two alike contexts, and in the other.
-use Rattle.std.proofs.Common.{◌≡◌, ◌⊎◌, ℕ, zero, suc, ◌+◌, ◌<◌, ◌≤◌, Bool, true, false, cond, List, [], ◌∷◌, ◌++◌, map, length, take, Option, Some, None, slice_get, refl, sym, ap, ◌∙◌, inl, inr, arith, subst, ⊎_elim}
+use Rattle.std.proofs.Common.{◌≡◌, ℕ, zero, suc, ◌+◌, ◌<◌, ◌≤◌, true, List, [], ◌∷◌, ◌++◌, map, take, Option, Some, slice_get, refl, sym, ap, ◌∙◌, inl, inr, subst}
 use Rattle.oxml_base.specs.declared.span.Span.{Span}
-use Rattle.ml_types.specs.Types.{Head, Tree, Leaf, Node, Trees, Nil, Cons, tree_size}
+use Rattle.ml_types.specs.Types.{Head, Tree, Cons, tree_size}
 use Rattle.ml_typing.specs.declared.equation.Unknown.{Unknown}
-use Rattle.ml_typing.specs.declared.equation.Unknown.TheVariants as u
 use Rattle.ml_typing.specs.declared.equation.Equation.{Equation}
 use Rattle.ml_typing.specs.declared.equation.Step.{Step}
-use Rattle.ml_typing.specs.Terms.{Shape, Is, Make, Shapes, no_shapes, shape_and, Context, shape_of}
+use Rattle.ml_typing.specs.Terms.{Shape, Is, Make, Shapes, no_shapes, shape_and, Context}
 use Rattle.ml_typing.specs.Typing.{Assignment, Pair, Satisfies, tree_of, pair_of, step_pairs, pairs}
 use Rattle.ml_typing.specs.Refusals.{HasSolution, NoSolution, IsPart, IsPartOfAny, IsIn, names_of_all, IsInfinite, HasInfinite, NoInfinite, IsTypeOf, IsTypeAt, IsSmall, Fits, IsRuleOf, IsUnsolved, IsTooLarge}
-use Rattle.ml_typing.specs.Laws.{is_own, apart, AllApart, StepsApart}
+use Rattle.ml_typing.specs.Laws.{is_own, AllApart, StepsApart}
 use Rattle.ml_typing.proofs.Renamed.{IsAlike, at_shapes, all_at_shapes, tree_at, renamed, own_same, shape_same}
 
 abbrev pub at_pair : (Unknown → Shape) → Pair → Pair
@@ -166,7 +165,13 @@ unsolved_too uses c d there here ss rule span h f =
     let first : StepsApart uses (take f.k ss) = apart_taken uses f.k ss h in
     let own : AllApart uses f.step.equations = apart_at uses f.k f.step ss h f.at in
     record {
-      k = f.k; step = f.step; at = f.at; part = f.part; equation = f.equation; equation_at = f.equation_at; span_is = f.span_is;
+      k = f.k;
+      step = f.step;
+      at = f.at;
+      part = f.part;
+      equation = f.equation;
+      equation_at = f.equation_at;
+      span_is = f.span_is;
       before = fits_too uses c d there (take f.k ss) first f.before;
       still = has_too uses c d there _ _ (part_same uses c d there (take f.k ss) f.step f.part first own) f.still;
       fails = none_back uses d c here _ _ (part_same uses d c here (take f.k ss) f.step (f.part + 1) first own) f.fails;
@@ -178,7 +183,12 @@ large_too uses c d there here ss span h f =
     let first : StepsApart uses (take f.k ss) = apart_taken uses f.k ss h in
     let own : AllApart uses f.step.equations = apart_at uses f.k f.step ss h f.at in
     record {
-      k = f.k; step = f.step; at = f.at; type = f.type; of_steps = f.of_steps; span_is = f.span_is;
+      k = f.k;
+      step = f.step;
+      at = f.at;
+      type = f.type;
+      of_steps = f.of_steps;
+      span_is = f.span_is;
       before = fits_too uses c d there (take f.k ss) first f.before;
       solvable = has_too uses c d there _ _ (whole_same uses c d there (take f.k ss) f.step first own) f.solvable;
       large = λ a solves. subst (λ (w : Tree). 2000 < tree_size w)

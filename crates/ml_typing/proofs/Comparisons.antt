@@ -1,8 +1,7 @@
 -- Comparisons under one typing of the items and under another.
-use Rattle.std.proofs.Common.{◌≡◌, ◌⊎◌, ℕ, zero, suc, ◌+◌, ◌<◌, ◌≤◌, Bool, true, List, [], ◌∷◌, take, Option, Some, None, slice_get, refl, sym, ap, ◌∙◌, subst, ⊎_elim, arith}
-use Rattle.std.proofs.lemmas.Bool.{cases_lt}
+use Rattle.std.proofs.Common.{◌≡◌, ℕ, zero, suc, ◌<◌, List, [], ◌∷◌, take, Option, Some, slice_get, refl, sym, ap, ◌∙◌, subst}
 use Rattle.oxml_base.specs.declared.span.Span.{Span}
-use Rattle.ml_types.specs.Types.{ConHead, Tree, Node, Nil}
+use Rattle.ml_types.specs.Types.{Tree}
 use Rattle.ml_typing.specs.declared.equation.Unknown.{Unknown}
 use Rattle.ml_typing.specs.declared.equation.Step.{Step}
 use Rattle.ml_typing.specs.Terms.{Context}

@@ -1,5 +1,5 @@
 -- Of one item the answers exclude each other, and a fault is at one step only.
-use Rattle.std.proofs.Common.{◌≡◌, ◌⊎◌, ℕ, zero, suc, ◌+◌, ◌<◌, ◌≤◌, List, [], ◌∷◌, ◌++◌, length, take, Some, None, slice_get, refl, sym, ap, ◌∙◌, inl, inr, arith, subst, ⊎_elim, add-one}
+use Rattle.std.proofs.Common.{◌≡◌, ℕ, zero, suc, ◌+◌, ◌<◌, ◌≤◌, List, [], ◌∷◌, ◌++◌, take, Some, slice_get, refl, sym, ap, ◌∙◌, inl, inr, arith, subst, ⊎_elim}
 use Rattle.std.proofs.lemmas.Bool.{cases_lt}
 use Rattle.oxml_base.specs.declared.span.Span.{Span}
 use Rattle.ml_types.specs.Types.{tree_size}
@@ -8,7 +8,7 @@ use Rattle.ml_typing.specs.declared.equation.Equation.{Equation}
 use Rattle.ml_typing.specs.declared.equation.Step.{Step}
 use Rattle.ml_typing.specs.Terms.{Context}
 use Rattle.ml_typing.specs.Typing.{Assignment, Pair, Satisfies, pairs, step_pairs}
-use Rattle.ml_typing.specs.Refusals.{HasSolution, NoSolution, IsTypeOf, IsSmall, Fits, IsRuleOf, IsUnsolved, IsTooLarge}
+use Rattle.ml_typing.specs.Refusals.{HasSolution, NoSolution, IsTypeOf, Fits, IsRuleOf, IsUnsolved, IsTooLarge}
 
 -- solutions of two lists of pairs
 pub both : (a : Assignment) (ps qs : List Pair) → Satisfies a ps → Satisfies a qs → Satisfies a (ps ++ qs)
@@ -45,8 +45,8 @@ until c a (r ∷ rest) zero s at h =
 until c a (r ∷ rest) (suc k) s at h =
     let inner : Satisfies a (pairs c (take k rest) ++ step_pairs c s) = until c a rest k s at (back a (step_pairs c r) (pairs c rest) h) in
     both a (step_pairs c r ++ pairs c (take k rest)) (step_pairs c s)
-      (both a (step_pairs c r) (pairs c (take k rest)) (front a (step_pairs c r) (pairs c rest) h) (front a (pairs c (take k rest)) (step_pairs c s) inner))
-      (back a (pairs c (take k rest)) (step_pairs c s) inner)
+    (both a (step_pairs c r) (pairs c (take k rest)) (front a (step_pairs c r) (pairs c rest) h) (front a (pairs c (take k rest)) (step_pairs c s) inner))
+    (back a (pairs c (take k rest)) (step_pairs c s) inner)
 
 pub taken : {A : Type 0} (xs : List A) (k m : ℕ) (x : A) → k < m → slice_get xs k ≡ Some x → slice_get (take m xs) k ≡ Some x
 taken [] k m x l at = absurd cc

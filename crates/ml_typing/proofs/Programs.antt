@@ -1,13 +1,13 @@
 -- Of one program the answers exclude each other, whichever principal typings its items have.
-use Rattle.std.proofs.Common.{◌≡◌, ◌⊎◌, ℕ, zero, suc, ◌+◌, ◌<◌, ◌≤◌, Bool, true, false, cond, List, [], ◌∷◌, ◌++◌, length, take, Option, Some, None, slice_get, refl, sym, ap, ◌∙◌, inl, inr, arith, subst, ⊎_elim}
+use Rattle.std.proofs.Common.{◌≡◌, ℕ, Bool, true, false, cond, List, [], ◌∷◌, ◌++◌, Option, Some, None, refl, sym, ap, ◌∙◌, subst}
 use Rattle.oxml_base.specs.declared.span.Span.{Span}
-use Rattle.ml_types.specs.Types.{Head, ConHead, Tree, Leaf, Node, Trees, Nil, Cons, tree_size}
+use Rattle.ml_types.specs.Types.{Tree, Leaf, Node, Trees, Nil, Cons}
 use Rattle.ml_typing.specs.declared.equation.Unknown.{Unknown}
 use Rattle.ml_typing.specs.declared.equation.Unknown.TheVariants as u
 use Rattle.ml_typing.specs.declared.equation.Step.{Step}
 use Rattle.ml_typing.specs.Terms.{Context}
-use Rattle.ml_typing.specs.Typing.{Assignment, Satisfies, pairs, at_types, all_at_types, Occurs, IsInstance, IsPrincipal, ItemSteps, is_among, behind, behind_all, IsTyped}
-use Rattle.ml_typing.specs.Refusals.{Fits, IsSmall, IsUnsolved, IsTooLarge, AllSmall, HasTypes, FirstFault}
+use Rattle.ml_typing.specs.Typing.{Assignment, Satisfies, pairs, at_types, all_at_types, Occurs, IsInstance, IsPrincipal, ItemSteps, is_among, behind, behind_all}
+use Rattle.ml_typing.specs.Refusals.{Fits, IsUnsolved, IsTooLarge, HasTypes, FirstFault}
 use Rattle.ml_typing.specs.Laws.{is_own, StepsApart, IsApart, ItemsApart}
 use Rattle.ml_typing.proofs.Faults.{fit_or_unsolved, fit_or_large, unsolved_once, large_once, unsolved_or_large}
 use Rattle.ml_typing.proofs.Renamed.{IsAt, SameScheme, IsAlike, alike_back}
@@ -28,7 +28,9 @@ instance_of uses c d there item a b h solves principal v own occurs =
 
 pub behind_alike : (uses : ℕ → Option ℕ) (c d : Context) → IsAlike c d → (item : ItemSteps) (a b : Assignment) → IsApart uses item → IsPrincipal (pairs c item.steps) a → IsPrincipal (pairs d item.steps) b → IsAlike (behind c a item.binders) (behind d b item.binders)
 behind_alike uses c d alike item a b h p q = record {
-  decls = alike.decls; declared = alike.declared; operation = alike.operation;
+  decls = alike.decls;
+  declared = alike.declared;
+  operation = alike.operation;
   scheme = λ n. scheme_case (is_among item.binders n) (a (u.Binder n)) (b (u.Binder n)) (c.scheme n) (d.scheme n)
       (λ e. (instance_of uses c d alike item a b h.steps p.typing q (u.Binder n) refl (h.binders d n e), instance_of uses d c (alike_back c d alike) item b a h.steps q.typing p (u.Binder n) refl (h.binders c n e)))
       (alike.scheme n);
@@ -96,7 +98,7 @@ module _ (uses : ℕ → Option ℕ) (P : Context → List Step → Type 0) (fau
   no_fault c d alike (i ∷ before) (b ∷ others) item after [] h k m f = absurd k.typed
   no_fault c d alike (i ∷ before) (b ∷ others) item after (a ∷ types) h k m f =
       no_fault (behind c a i.binders) (behind d b i.binders) (behind_alike uses c d alike i a b h.0 k.typed.0 m.typed.0) before others item after types h.1
-        (rest_typed c i (before ++ item ∷ after) a types k) (rest_typed d i before b others m) f
+      (rest_typed c i (before ++ item ∷ after) a types k) (rest_typed d i before b others m) f
 
   pub meet : (Q : Context → List Step → Type 0) → IsFault uses Q → (c d : Context) → IsAlike c d → (before others : List ItemSteps) (types kinds : List Assignment) (item other : ItemSteps) (after rest : List ItemSteps) → before ++ item ∷ after ≡ others ++ other ∷ rest → ItemsApart uses (before ++ item ∷ after) → HasTypes c before types → HasTypes d others kinds → P (behind_all c types before) item.steps → Q (behind_all d kinds others) other.steps → Meeting P Q before others item other
   meet Q q c d alike (i ∷ before) others [] kinds item other after rest e h k m f g = absurd k.typed
@@ -124,7 +126,7 @@ module _ (uses : ℕ → Option ℕ) (P : Context → List Step → Type 0) (fau
 typed_or_fault : (uses : ℕ → Option ℕ) (P : Context → List Step → Type 0) → IsFault uses P → (c : Context) (items : List ItemSteps) (types : List Assignment) → ItemsApart uses items → HasTypes c items types → FirstFault c items P → ⊥
 typed_or_fault uses P fault c items types h k f =
     no_fault uses P fault c c (alike_self c) f.before f.types f.item f.after types
-      (subst (ItemsApart uses) f.split h) (subst (λ (is : List ItemSteps). HasTypes c is types) f.split k) f.typed f.fault
+    (subst (ItemsApart uses) f.split h) (subst (λ (is : List ItemSteps). HasTypes c is types) f.split k) f.typed f.fault
 
 two_faults : (uses : ℕ → Option ℕ) (P Q : Context → List Step → Type 0) → IsFault uses P → IsFault uses Q → (c : Context) (items : List ItemSteps) → ItemsApart uses items → (f : FirstFault c items P) → (g : FirstFault c items Q) → Meeting P Q f.before g.before f.item g.item
 two_faults uses P Q p q c items h f g =

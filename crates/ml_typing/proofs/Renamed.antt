@@ -1,18 +1,18 @@
 -- Equations behind the same items, whose names have schemes by one principal typing or by another: the
 -- one are the other at other fresh types of the uses.
-use Rattle.std.proofs.Common.{◌≡◌, ◌⊎◌, ℕ, zero, suc, ◌+◌, Bool, true, false, cond, nat_eq, List, [], ◌∷◌, ◌++◌, map, length, take, Option, Some, None, slice_get, refl, sym, ap, ◌∙◌, inl, inr, arith, subst, ⊎_elim}
+use Rattle.std.proofs.Common.{◌≡◌, ℕ, zero, suc, ◌+◌, Bool, true, false, cond, List, [], ◌∷◌, map, length, Option, Some, None, slice_get, refl, sym, ap, ◌∙◌, arith, subst}
 use Rattle.ml_types.specs.declared.node.TyId.{TyId}
 use Rattle.ml_types.specs.declared.declared.DeclInfo.{DeclInfo}
 use Rattle.ml_types.specs.declared.declared.ConInfo.{ConInfo}
 use Rattle.ml_types.specs.declared.declared.ArgInfo.{ArgInfo}
 use Rattle.ml_types.specs.declared.declared.FieldInfo.{FieldInfo}
-use Rattle.ml_types.specs.Types.{Head, ConHead, TupleHead, ArrowHead, Tree, Leaf, Node, Trees, Nil, Cons, tree_size}
+use Rattle.ml_types.specs.Types.{Head, ConHead, TupleHead, ArrowHead, Tree, Leaf, Node, Trees, Nil, Cons}
 use Rattle.ml_typing.specs.declared.equation.Unknown.{Unknown}
 use Rattle.ml_typing.specs.declared.equation.Unknown.TheVariants as u
-use Rattle.ml_typing.specs.declared.equation.Term.{Term, fold-Term, fold-roll-Term, ind-Term, roll-Term, map-Term}
+use Rattle.ml_typing.specs.declared.equation.Term.{Term, fold-roll-Term, ind-Term, roll-Term, map-Term}
 use Rattle.ml_typing.specs.declared.equation.Term.TheOpen as t
 use Rattle.ml_typing.specs.declared.equation.Term.TheOpen.{Term-F}
-use Rattle.ml_typing.specs.Terms.{Shape, Is, Make, Shapes, no_shapes, shape_and, shapes, Context, with_shapes, all_with_shapes, fresh_from, at_fresh, no_shape, product, function, shape_at, named, made, argument, field, cons_of, fields_of, top, term_step, shape_of}
+use Rattle.ml_typing.specs.Terms.{Shape, Is, Make, Shapes, no_shapes, shape_and, shapes, Context, with_shapes, all_with_shapes, fresh_from, at_fresh, product, function, shape_at, named, made, argument, field, cons_of, fields_of, top, term_step, shape_of}
 use Rattle.ml_typing.specs.Typing.{Assignment, tree_of, trees_of, at_types, all_at_types}
 use Rattle.ml_typing.specs.Laws.{names_none, names_this, is_own, all_true, apart_step, apart}
 
