@@ -124,7 +124,7 @@ module _ (uses : ℕ → Option ℕ) (c d : Context) (alike : IsAlike c d) where
   pub moved_same : (a : Assignment) (v : Unknown) → is_own uses v ≡ true → moved a v ≡ a v
   moved_same a v h = ap (tree_of a) (own_same uses c d alike v h)
 
-  left_own : (es : List Equation) (i : ℕ) (e : Equation) → AllApart uses es → slice_get es i ≡ Some e → is_own uses e.left ≡ true
+  pub left_own : (es : List Equation) (i : ℕ) (e : Equation) → AllApart uses es → slice_get es i ≡ Some e → is_own uses e.left ≡ true
   left_own [] i e h at = absurd cc
   left_own (q ∷ es) zero e h at = let g : q ≡ e = cc in subst (λ (r : Equation). is_own uses r.left ≡ true) g h.0
   left_own (q ∷ es) (suc i) e h at = left_own es i e h.2 at
@@ -154,7 +154,7 @@ apart_taken uses (suc k) [] h = tt
 apart_taken uses zero (s ∷ ss) h = tt
 apart_taken uses (suc k) (s ∷ ss) h = (h.0, apart_taken uses k ss h.1)
 
-apart_at : (uses : ℕ → Option ℕ) (k : ℕ) (s : Step) (ss : List Step) → StepsApart uses ss → slice_get ss k ≡ Some s → AllApart uses s.equations
+pub apart_at : (uses : ℕ → Option ℕ) (k : ℕ) (s : Step) (ss : List Step) → StepsApart uses ss → slice_get ss k ≡ Some s → AllApart uses s.equations
 apart_at uses k s [] h at = absurd cc
 apart_at uses zero s (r ∷ ss) h at = let g : r ≡ s = cc in subst (λ (x : Step). AllApart uses x.equations) g h.0
 apart_at uses (suc k) s (r ∷ ss) h at = apart_at uses k s ss h.1 at

@@ -4,3 +4,4 @@ mod Renamed
 mod Alike
 mod Programs
 mod Comparisons
+mod Unique

@@ -152,3 +152,13 @@ pub first_unsolved_or_large : (uses : ℕ → Option ℕ) (c : Context) (items :
 first_unsolved_or_large uses c items rule span span' h f g =
     let m : Meeting (λ e ss. IsUnsolved e ss rule span) (λ e ss. IsTooLarge e ss span') f.before g.before f.item g.item = two_faults uses _ _ (unsolved_fault uses rule span) (large_fault uses span') c items h f g in
     unsolved_or_large m.context f.item.steps rule span span' m.one m.two
+
+pub first_unsolved_item : (uses : ℕ → Option ℕ) (c : Context) (items : List ItemSteps) (rule rule' : ℕ) (span span' : Span) → ItemsApart uses items → (f : FirstFault c items (λ e ss. IsUnsolved e ss rule span)) → (g : FirstFault c items (λ e ss. IsUnsolved e ss rule' span')) → f.before ≡ g.before
+first_unsolved_item uses c items rule rule' span span' h f g =
+    let m : Meeting (λ e ss. IsUnsolved e ss rule span) (λ e ss. IsUnsolved e ss rule' span') f.before g.before f.item g.item = two_faults uses _ _ (unsolved_fault uses rule span) (unsolved_fault uses rule' span') c items h f g in
+    m.items
+
+pub first_large_item : (uses : ℕ → Option ℕ) (c : Context) (items : List ItemSteps) (span span' : Span) → ItemsApart uses items → (f : FirstFault c items (λ e ss. IsTooLarge e ss span)) → (g : FirstFault c items (λ e ss. IsTooLarge e ss span')) → f.before ≡ g.before
+first_large_item uses c items span span' h f g =
+    let m : Meeting (λ e ss. IsTooLarge e ss span) (λ e ss. IsTooLarge e ss span') f.before g.before f.item g.item = two_faults uses _ _ (large_fault uses span) (large_fault uses span') c items h f g in
+    m.items

@@ -79,3 +79,9 @@ pub record IsApart (uses : ℕ → Option ℕ) (item : ItemSteps) : Type 0 where
 abbrev pub ItemsApart : (ℕ → Option ℕ) → List ItemSteps → Type 0
 ItemsApart uses [] = Unit {0}
 ItemsApart uses (i ∷ is) = IsApart uses i × ItemsApart uses is
+
+-- what the equations of these steps are about has under b the types that it has under a, with other types
+-- for the variables
+pub record IsSameTypes (steps : List Step) (a b : Assignment) : Type 0 where
+  pub types : ℕ → Tree
+  pub each : (j : ℕ) (s : Step) (k : ℕ) (e : Equation) → slice_get steps j ≡ Some s → slice_get s.equations k ≡ Some e → b e.left ≡ at_types types (a e.left)

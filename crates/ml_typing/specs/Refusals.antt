@@ -48,12 +48,12 @@ HasInfinite ps = (c : Shape → Tree) × IsInfinite ps c
 abbrev pub NoInfinite : List Pair → Type 0
 NoInfinite ps = (c : Shape → Tree) → IsInfinite ps c → ⊥
 
--- a step has this type where it is that of its node, or one that an equation of it says
+-- a type that a step has: that of its node, or what one of its equations is about
 abbrev pub IsTypeAt : Step → Unknown → Type 0
 IsTypeAt s v = ((n : ℕ) × (s.node ≡ Some n) × (v ≡ u.Node n)) ⊎ ((i : ℕ) × (e : Equation) × (slice_get s.equations i ≡ Some e) × (v ≡ e.left))
 
--- the types that are measured, those of the nodes of these steps: what an equation says is the type of
--- a node of the steps so far, or of a name that is borrowed
+-- the types that are measured, those of the nodes of these steps: what an equation is about is a node of
+-- the steps so far, or a name that is borrowed
 abbrev pub IsTypeOf : List Step → Unknown → Type 0
 IsTypeOf steps v = (i : ℕ) × (s : Step) × (slice_get steps i ≡ Some s) × IsTypeAt s v
 

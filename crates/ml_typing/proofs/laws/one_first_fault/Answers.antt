@@ -1,4 +1,4 @@
-use Rattle.ml_typing.proofs.Programs.{first_unsolved_once, first_large_once, first_unsolved_or_large}
+use Rattle.ml_typing.proofs.Programs.{first_unsolved_once, first_large_once, first_unsolved_or_large, first_unsolved_item, first_large_item}
 use Rattle.ml_typing.proofs.laws.one_first_fault.Goals as goal
 
 pub returns-clause-unsolved : goal.returns-clause-unsolved
@@ -9,3 +9,9 @@ returns-clause-large c = first_large_once
 
 pub returns-clause-either : goal.returns-clause-either
 returns-clause-either c = first_unsolved_or_large
+
+pub returns-clause-unsolved_item : goal.returns-clause-unsolved_item
+returns-clause-unsolved_item c = first_unsolved_item
+
+pub returns-clause-large_item : goal.returns-clause-large_item
+returns-clause-large_item c = first_large_item
