@@ -1,12 +1,11 @@
 -- Two lists of principal typings of a program give it the same types, up to the names of variables.
-use Rattle.std.proofs.Common.{◌≡◌, ◌⊎◌, ℕ, zero, suc, Bool, true, List, [], ◌∷◌, ◌++◌, map, Option, Some, None, slice_get, refl, sym, ap, ◌∙◌, inl, inr, subst}
-use Rattle.ml_types.specs.Types.{Tree}
+use Rattle.std.proofs.Common.{◌≡◌, ℕ, zero, suc, List, [], ◌∷◌, ◌++◌, map, Option, Some, slice_get, sym, ap, ◌∙◌, inl, inr, subst}
 use Rattle.ml_typing.specs.declared.equation.Unknown.{Unknown}
 use Rattle.ml_typing.specs.declared.equation.Equation.{Equation}
 use Rattle.ml_typing.specs.declared.equation.Step.{Step}
 use Rattle.ml_typing.specs.Terms.{Context}
-use Rattle.ml_typing.specs.Typing.{Assignment, Pair, pair_of, step_pairs, pairs, at_types, Occurs, IsInstance, IsPrincipal, ItemSteps, behind, IsTyped}
-use Rattle.ml_typing.specs.Laws.{is_own, AllApart, StepsApart, IsApart, ItemsApart, IsSameTypes}
+use Rattle.ml_typing.specs.Typing.{Assignment, Pair, pair_of, step_pairs, pairs, Occurs, IsInstance, IsPrincipal, ItemSteps, behind, IsTyped}
+use Rattle.ml_typing.specs.Laws.{IsApart, ItemsApart, IsSameTypes}
 use Rattle.ml_typing.proofs.Renamed.{IsAlike, alike_back}
 use Rattle.ml_typing.proofs.Alike.{moved, moved_same, solves_too, steps_same, left_own, apart_at}
 use Rattle.ml_typing.proofs.Programs.{behind_alike, alike_self}
