@@ -1,1 +1,7 @@
 mod Typings
+mod Faults
+mod Renamed
+mod Alike
+mod Programs
+mod Comparisons
+mod Unique

@@ -48,13 +48,18 @@ HasInfinite ps = (c : Shape → Tree) × IsInfinite ps c
 abbrev pub NoInfinite : List Pair → Type 0
 NoInfinite ps = (c : Shape → Tree) → IsInfinite ps c → ⊥
 
--- a node of these steps
-abbrev pub IsNodeOf : List Step → ℕ → Type 0
-IsNodeOf steps n = (i : ℕ) × (s : Step) × (slice_get steps i ≡ Some s) × (s.node ≡ Some n)
+-- a type that a step has: that of its node, or what one of its equations is about
+abbrev pub IsTypeAt : Step → Unknown → Type 0
+IsTypeAt s v = ((n : ℕ) × (s.node ≡ Some n) × (v ≡ u.Node n)) ⊎ ((i : ℕ) × (e : Equation) × (slice_get s.equations i ≡ Some e) × (v ≡ e.left))
 
--- no node of these steps has more than 2,000 nodes in its type
+-- the types that are measured, those of the nodes of these steps: what an equation is about is a node of
+-- the steps so far, or a name that is borrowed
+abbrev pub IsTypeOf : List Step → Unknown → Type 0
+IsTypeOf steps v = (i : ℕ) × (s : Step) × (slice_get steps i ≡ Some s) × IsTypeAt s v
+
+-- none of these types has more than 2,000 nodes
 abbrev pub IsSmall : List Step → Assignment → Type 0
-IsSmall steps a = (n : ℕ) → IsNodeOf steps n → tree_size (a (u.Node n)) ≤ 2000
+IsSmall steps a = (v : Unknown) → IsTypeOf steps v → tree_size (a v) ≤ 2000
 
 -- the steps have a solution in which no type is too large: neither number is among them
 abbrev pub Fits : Context → List Step → Type 0
@@ -79,28 +84,30 @@ pub record IsUnsolved (c : Context) (steps : List Step) (rule : ℕ) (span : Spa
   pub rule_is : IsRuleOf rule (pairs c (take k steps) ++ step_pairs c step)
   pub span_is : span ≡ equation.part
 
--- step k is the first whose most general solution gives a node of the steps so far a type of more than
--- 2,000 nodes: every solution does, since the most general one has the least types
+-- step k is the first whose most general solution has a type of more than 2,000 nodes among those of the
+-- steps so far: every solution does, since the most general one has the least types
 pub record IsTooLarge (c : Context) (steps : List Step) (span : Span) : Type 0 where
   pub k : ℕ
   pub step : Step
   pub at : slice_get steps k ≡ Some step
   pub before : Fits c (take k steps)
   pub solvable : HasSolution (pairs c (take k steps) ++ step_pairs c step)
-  pub node : ℕ
-  pub of_steps : IsNodeOf (take (k + 1) steps) node
-  pub large : (a : Assignment) → Satisfies a (pairs c (take k steps) ++ step_pairs c step) → 2000 < tree_size (a (u.Node node))
+  pub type : Unknown
+  pub of_steps : IsTypeOf (take (k + 1) steps) type
+  pub large : (a : Assignment) → Satisfies a (pairs c (take k steps) ++ step_pairs c step) → 2000 < tree_size (a type)
   pub span_is : span ≡ step.span
 
--- items whose types are all small enough
-abbrev pub AllSmall : Assignment → List ItemSteps → Type 0
-AllSmall a [] = Unit {0}
-AllSmall a (i ∷ is) = IsSmall i.steps a × AllSmall a is
+-- items whose types are all small enough, each by its own assignment
+abbrev pub AllSmall : List Assignment → List ItemSteps → Type 0
+AllSmall [] [] = Unit {0}
+AllSmall [] (i ∷ is) = ⊥
+AllSmall (a ∷ types) [] = ⊥
+AllSmall (a ∷ types) (i ∷ is) = IsSmall i.steps a × AllSmall types is
 
 -- a program with neither number
-pub record HasTypes (c : Context) (items : List ItemSteps) (a : Assignment) : Type 0 where
-  pub typed : IsTyped c a items
-  pub small : AllSmall a items
+pub record HasTypes (c : Context) (items : List ItemSteps) (types : List Assignment) : Type 0 where
+  pub typed : IsTyped c types items
+  pub small : AllSmall types items
 
 -- an item is the first with a number; the items before it have types
 pub record FirstFault (c : Context) (items : List ItemSteps) (P : Context → List Step → Type 0) : Type 0 where
@@ -108,7 +115,7 @@ pub record FirstFault (c : Context) (items : List ItemSteps) (P : Context → Li
   pub item : ItemSteps
   pub after : List ItemSteps
   pub split : items ≡ before ++ item ∷ after
-  pub types : Assignment
+  pub types : List Assignment
   pub typed : HasTypes c before types
   pub fault : P (behind_all c types before) item.steps
 
@@ -116,20 +123,30 @@ pub record FirstFault (c : Context) (items : List ItemSteps) (P : Context → Li
 abbrev pub CanCompare : Tree → Type 0
 CanCompare t = (d : ℕ) × (d < 5) × (t ≡ Node (ConHead d 0) Nil)
 
-abbrev pub all_steps_of : List ItemSteps → List Step
-all_steps_of [] = []
-all_steps_of (i ∷ is) = i.steps ++ all_steps_of is
+-- the operands of each comparison among these steps can be compared
+abbrev pub Compares : List Step → Assignment → Type 0
+Compares steps a = (j : ℕ) (s : Step) (v : Unknown) → slice_get steps j ≡ Some s → s.compared ≡ Some v → CanCompare (a v)
 
--- step k is the first comparison whose operands have another type
-pub record IsBadComparison (steps : List Step) (a : Assignment) (span : Span) : Type 0 where
+abbrev pub AllCompare : List Assignment → List ItemSteps → Type 0
+AllCompare [] [] = Unit {0}
+AllCompare [] (i ∷ is) = ⊥
+AllCompare (a ∷ types) [] = ⊥
+AllCompare (a ∷ types) (i ∷ is) = Compares i.steps a × AllCompare types is
+
+-- the first comparison whose operands have another type: of the items in their order the first with one,
+-- and of its steps the first
+pub record IsBadComparison (items : List ItemSteps) (types : List Assignment) (span : Span) : Type 0 where
+  pub i : ℕ
+  pub item : ItemSteps
+  pub a : Assignment
+  pub item_at : slice_get items i ≡ Some item
+  pub types_at : slice_get types i ≡ Some a
+  pub items_before : AllCompare (take i types) (take i items)
   pub k : ℕ
   pub step : Step
   pub operands : Unknown
-  pub at : slice_get steps k ≡ Some step
+  pub at : slice_get item.steps k ≡ Some step
   pub compares : step.compared ≡ Some operands
   pub bad : CanCompare (a operands) → ⊥
-  pub before : (j : ℕ) (s : Step) (v : Unknown) → j < k → slice_get steps j ≡ Some s → s.compared ≡ Some v → CanCompare (a v)
+  pub steps_before : Compares (take k item.steps) a
   pub span_is : span ≡ step.span
-
-abbrev pub AllCompare : List Step → Assignment → Type 0
-AllCompare steps a = (j : ℕ) (s : Step) (v : Unknown) → slice_get steps j ≡ Some s → s.compared ≡ Some v → CanCompare (a v)

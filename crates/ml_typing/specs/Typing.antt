@@ -97,14 +97,18 @@ is_among (m ∷ ms) n = cond (nat_eq m n) true (is_among ms n)
 abbrev pub behind : Context → Assignment → List ℕ → Context
 behind c a binders = record c { scheme = λ b. cond (is_among binders b) (Some (a (Binder b))) (c.scheme b) }
 
-abbrev pub behind_all : Context → Assignment → List ItemSteps → Context
-behind_all c a [] = c
-behind_all c a (i ∷ is) = behind_all (behind c a i.binders) a is
+-- behind items, each with an assignment of its own
+abbrev pub behind_all : Context → List Assignment → List ItemSteps → Context
+behind_all c [] items = c
+behind_all c (a ∷ types) [] = c
+behind_all c (a ∷ types) (i ∷ is) = behind_all (behind c a i.binders) types is
 
--- each item has a principal typing, where the names of earlier items have their schemes
-abbrev pub IsTyped : Context → Assignment → List ItemSteps → Type 0
-IsTyped c a [] = Unit {0}
-IsTyped c a (i ∷ is) = IsPrincipal (pairs c i.steps) a × IsTyped (behind c a i.binders) a is
+-- each item has a principal typing of its own, where the names of earlier items have their schemes
+abbrev pub IsTyped : Context → List Assignment → List ItemSteps → Type 0
+IsTyped c [] [] = Unit {0}
+IsTyped c [] (i ∷ is) = ⊥
+IsTyped c (a ∷ types) [] = ⊥
+IsTyped c (a ∷ types) (i ∷ is) = IsPrincipal (pairs c i.steps) a × IsTyped (behind c a i.binders) types is
 
 -- what a program is read by
 
