@@ -11,6 +11,7 @@ ghost use Rattle.hm_terms.specs.Contexts.{IsRead, AllShow, vars_of, alias_of};
 
 use crate::instance::{Put, instance};
 use crate::solver::Solver;
+use ml_tree::Op;
 use ml_types::{ArgInfo, ConInfo, DeclInfo, Decls, FieldInfo, TyId, TyNode};
 use ml_typing::{Term, Unknown};
 use oxml_base::{Items, NoMemory};
@@ -24,10 +25,7 @@ pub fn type_of(solver: &mut Solver, d: &Decls, term: &Term) -> Result<TyId, NoMe
     match term {
         Term::Of(unknown) => solver.unknown(*unknown),
         Term::Top { binder, node } => top_type(solver, d, *binder, *node),
-        Term::Operation { op, node } => {
-            let id = solver.operation(*op).ok_or(NoMemory)?;
-            fresh_instance(solver, id, *node)
-        }
+        Term::Operation { op, node } => operation_type(solver, d, *op, *node),
         Term::Made { decl, node } => made_type(solver, d, *decl, *node),
         Term::Argument { decl, con, node } => argument_type(solver, d, *decl, *con, *node),
         Term::Field { decl, field, node } => field_type(solver, d, *decl, *field, *node),
@@ -74,6 +72,16 @@ fn top_type(solver: &mut Solver, d: &Decls, binder: u32, node: u32) -> Result<Ty
     match solver.scheme(binder) {
         Some(id) => fresh_instance(solver, id, node),
         None => solver.unknown(Unknown::Binder(binder)),
+    }
+}
+
+/// The type of an operation at the fresh types of a node.
+fn operation_type(solver: &mut Solver, d: &Decls, op: Op, node: u32) -> Result<TyId, NoMemory>
+    ensures { IfOk result (λ x. (c : Context) → IsRead (store solver.old) d.now.types c → Lowers (store solver.old) (store solver.new) (at_fresh node (c.operation op)) x) }
+{
+    match solver.operation(op) {
+        Some(id) => fresh_instance(solver, id, node),
+        None => Err(NoMemory),
     }
 }
 
@@ -145,12 +153,17 @@ fn argument_type(
     ensures { IfOk result (λ x. (c : Context) → IsRead (store solver.old) d.now.types c → Lowers (store solver.old) (store solver.new) (argument c.declared node (slice_get (cons_of (slice_get d.now.types decl)) con)) x) }
 {
     match constructor(d, decl, con) {
-        Some(info) => {
-            let ids = argument_types(solver, info.args.as_slice(), node)?;
-            product_type(solver, ids)
-        }
+        Some(info) => whole_argument(solver, info.args.as_slice(), node),
         None => nothing(solver),
     }
+}
+
+/// The product of a constructor's fields at the fresh types of a node, or the one field's type.
+fn whole_argument(solver: &mut Solver, args: &[ArgInfo], node: u32) -> Result<TyId, NoMemory>
+    ensures { IfOk result (λ x. (declared : TyIdValue → Tree) → IsReady (store solver.old) → AllShow (store solver.old) declared args.now → Lowers (store solver.old) (store solver.new) (product (map (λ (a : ArgValue). at_fresh node (declared a.ty)) args.now)) x) }
+{
+    let ids = argument_types(solver, args, node)?;
+    product_type(solver, ids)
 }
 
 /// The types of a constructor's fields at the fresh types of a node.
