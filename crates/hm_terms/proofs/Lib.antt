@@ -9,4 +9,5 @@ pub mod Building
 pub mod Contexts
 pub mod Layers
 pub mod Walking
+pub mod Terms
 pub mod Tables

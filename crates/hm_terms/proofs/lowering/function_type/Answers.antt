@@ -8,7 +8,7 @@ loop-done-init c = λ hs r k all one. function_first (store c.args.solver.now) h
 
 pub loop-done-preserved : goal.loop-done-preserved
 loop-done-preserved c = λ hs r k all one.
-    function_next (store c.args.solver.now) (store c.loop-done.solver) (store c.arrow-to.new.self) hs r c.args.params.now c.loop-done.done c.loop-done.solver.slots c.in-Some.from c.loop-done.to c.in_ok-to.to k all
+    function_next (store c.args.solver.now) (store c.loop-done.solver) (store c.arrow.new.self) hs r c.args.params.now c.loop-done.done c.loop-done.solver.slots c.in-Some.from c.loop-done.to c.in_ok-to.to k all
     (c.loop-done.invariant hs r k all one) c.in-Some.ensures.0 c.in-Some.ensures.1 c.in_ok-to.ensures.adds
 
 pub returns : goal.returns
