@@ -1,8 +1,8 @@
-use Rattle.std.proofs.Common.{◌≡◌, List, Option, Some, None, map, ap, sym, ◌∙◌, subst}
+use Rattle.std.proofs.Common.{◌≡◌, Option, Some, sym, subst}
 use Rattle.std.specs.List.{slice_get}
 use Rattle.std.proofs.lemmas.Result.{IfOk-weaker}
 use Rattle.ml_types.specs.declared.declared.FieldInfo.{FieldInfo}
-use Rattle.ml_typing.specs.Terms.{field, at_fresh, fields_of}
+use Rattle.ml_typing.specs.Terms.{field, fields_of}
 use Rattle.hm_terms.specs.Stores.{store}
 use Rattle.hm_terms.specs.Shapes.{Lowers}
 use Rattle.hm_terms.proofs.Contexts.{field_shows}
