@@ -1,18 +1,16 @@
 -- Types that are built from the types of several shapes.
-use Rattle.std.proofs.Common.{◌≡◌, ℕ, zero, suc, ◌+◌, ◌<◌, ◌≤◌, List, [], ◌∷◌, ◌++◌, map, take, drop, length, Option, Some, None, get_or, refl, sym, ap, ◌∙◌, subst, arith, add-one}
-use Rattle.std.specs.List.{slice_get}
+use Rattle.std.proofs.Common.{◌≡◌, ℕ, zero, suc, ◌+◌, List, [], ◌∷◌, ◌++◌, length, Option, Some, None, refl, sym, ap, ◌∙◌, subst, arith, add-one}
 use Rattle.ml_types.specs.declared.node.TyId.{TyId}
 use Rattle.ml_types.specs.declared.node.TyNode.TheVariants.{Con, Tuple, Arrow}
 use Rattle.ml_types.specs.declared.declared.DeclInfo.{DeclInfo}
-use Rattle.ml_types.specs.Types.{Head, ConHead, TupleHead, ArrowHead}
+use Rattle.ml_types.specs.Types.{ConHead, TupleHead, ArrowHead}
 use Rattle.ml_typing.specs.declared.equation.Unknown.TheVariants.{Fresh}
-use Rattle.ml_typing.specs.Terms.{Shape, Is, Make, Shapes, shapes, no_shapes, shape_and, fresh_from, made, product, function, no_shape}
+use Rattle.ml_typing.specs.Terms.{Shape, Is, Make, shapes, no_shapes, shape_and, fresh_from, made, product}
 use Rattle.hm_terms.specs.Stores.{Store, AddsNode, IsReady, Grows}
 use Rattle.hm_terms.specs.Shapes.{Holds, HoldAll, Lowers, LowersAll}
 use Rattle.hm_terms.specs.Contexts.{vars_of}
 use Rattle.hm_terms.proofs.Growth.{grows_same, grows_then}
-use Rattle.hm_terms.proofs.Holding.{node_lowers, holds_grows, hold_all_grows, hold_length}
-use Rattle.hm_terms.proofs.Putting.{nothing_lowers}
+use Rattle.hm_terms.proofs.Holding.{node_lowers, hold_all_grows, hold_length}
 
 pub lowers_then : (a b c : Store) (h : Shape) (x : TyId) → Grows a b → Lowers b c h x → Lowers a c h x
 lowers_then a b c h x g l = record { grows = grows_then a b c g l.grows; holds = l.holds }

@@ -1,17 +1,16 @@
 -- What terms are read by, while the solver grows.
-use Rattle.std.proofs.Common.{◌≡◌, ℕ, zero, suc, ◌<◌, ◌≤◌, List, [], ◌∷◌, length, Option, Some, None, refl, sym, ap, ◌∙◌, subst, arith}
+use Rattle.std.proofs.Common.{◌≡◌, ℕ, suc, ◌<◌, List, [], ◌∷◌, length, Option, Some, None, refl, sym, ap, ◌∙◌, subst, arith}
 use Rattle.std.specs.List.{slice_get}
 use Rattle.ml_types.specs.declared.node.TyId.{TyId}
-use Rattle.ml_types.specs.declared.node.TyNode.{TyNode}
-use Rattle.ml_types.specs.Types.{Tree, parts_of}
+use Rattle.ml_types.specs.Types.{Tree}
 use Rattle.ml_types.specs.declared.declared.DeclInfo.{DeclInfo}
 use Rattle.ml_types.specs.declared.declared.ConInfo.{ConInfo}
 use Rattle.ml_types.specs.declared.declared.ArgInfo.{ArgInfo}
 use Rattle.ml_types.specs.declared.declared.FieldInfo.{FieldInfo}
 use Rattle.ml_typing.specs.declared.equation.Unknown.TheVariants.{Binder}
-use Rattle.ml_typing.specs.Terms.{Context, Shape, Make, shapes, with_shapes, shape_at, at_fresh, top, named, argument, field, product, cons_of, fields_of}
+use Rattle.ml_typing.specs.Terms.{Context, Shape, Make, shapes, with_shapes, shape_at, at_fresh, top, named, argument, cons_of, fields_of}
 use Rattle.ml_types.specs.Types.{ConHead}
-use Rattle.hm_unify.specs.Solutions.{Stands, node_at, link}
+use Rattle.hm_unify.specs.Solutions.{Stands}
 use Rattle.hm_terms.specs.Stores.{Store, Knows, IsReady, Grows}
 use Rattle.hm_terms.specs.Shapes.{Lowers}
 use Rattle.hm_terms.specs.Contexts.{Shows, ShowsAny, AllShow, IsRead, alias_of, op_place}

@@ -1,10 +1,10 @@
 -- A step of the walk that makes an instance of a type.
-use Rattle.std.proofs.Common.{◌≡◌, ℕ, ◌<◌, ◌⊎◌, Bool, true, false, cond, nat_eq, List, [], ◌∷◌, length, map, Option, Some, None, refl, sym, ap, ◌∙◌, subst, inl, inr, ⊎_elim, arith}
+use Rattle.std.proofs.Common.{◌≡◌, ℕ, ◌<◌, ◌⊎◌, true, false, cond, nat_eq, List, [], ◌∷◌, length, map, Some, None, refl, sym, ap, ◌∙◌, subst, inl, inr, arith}
 use Rattle.std.proofs.lemmas.Bool.Decides.{eqb_tells}
 use Rattle.ml_types.specs.declared.node.TyId.{TyId}
 use Rattle.ml_types.specs.declared.node.TyNode.{TyNode}
 use Rattle.ml_types.specs.declared.node.TyNode.TheVariants.{Var}
-use Rattle.ml_types.specs.Types.{Head, head_of, parts_of, Tree, Leaf, Node, Trees, Nil, Cons}
+use Rattle.ml_types.specs.Types.{Head, head_of, parts_of, Tree, Trees}
 use Rattle.ml_typing.specs.Terms.{Shape, Make, Shapes, no_shapes, shape_and, shapes, with_shapes, all_with_shapes}
 use Rattle.hm_unify.specs.Solutions.{node_at, Ends, Stands, variable, built, StandAll, none, more}
 use Rattle.hm_unify.specs.States.{IsHead}
@@ -13,8 +13,8 @@ use Rattle.hm_terms.specs.Stores.{Store, state, AddsNode, IsReady, Grows}
 use Rattle.hm_terms.specs.Shapes.{Holds, HoldAll, Lowers, Puts}
 use Rattle.hm_terms.specs.Copies.{Table, Copied, Copies, AreCopies, Rebuilt}
 use Rattle.hm_terms.specs.declared.instance.Put.{Put}
-use Rattle.hm_terms.proofs.Growth.{longer, ends_grow, ends_within, node_old, stands_within, length_longer, grows_same, grows_then}
-use Rattle.hm_terms.proofs.Holding.{grows_node, node_holds, node_lowers, holds_grows, hold_all_grows}
+use Rattle.hm_terms.proofs.Growth.{longer, ends_grow, ends_within, node_old, length_longer, grows_same}
+use Rattle.hm_terms.proofs.Holding.{grows_node, node_holds, node_lowers, holds_grows}
 use Rattle.hm_terms.proofs.Putting.{puts_grow}
 
 -- one copy more

@@ -1,5 +1,5 @@
 -- Solvers that have more nodes at the end: what was there stays.
-use Rattle.std.proofs.Common.{◌≡◌, ℕ, zero, suc, ◌+◌, ◌<◌, ◌≤◌, List, [], ◌∷◌, ◌++◌, length, Option, Some, None, get_or, refl, sym, ap, ◌∙◌, subst, arith, append_assoc, length-append}
+use Rattle.std.proofs.Common.{◌≡◌, ℕ, zero, suc, ◌<◌, ◌≤◌, List, [], ◌∷◌, ◌++◌, length, Option, Some, None, get_or, refl, sym, ap, ◌∙◌, subst, arith, append_assoc, length-append}
 use Rattle.std.specs.List.{slice_get}
 use Rattle.std.specs.Option.{option_and_then}
 use Rattle.std.proofs.lemmas.List.{append-nil}
@@ -7,12 +7,11 @@ use Rattle.std.proofs.lemmas.Option.{slice_get_within}
 use Rattle.ml_types.specs.declared.node.TyId.{TyId}
 use Rattle.ml_types.specs.declared.node.TyNode.{TyNode}
 use Rattle.ml_types.specs.declared.node.TyNode.TheVariants.{Var}
-use Rattle.ml_types.specs.Types.{Head, head_of, parts_of, Tree, Trees}
-use Rattle.ml_typing.specs.declared.equation.Unknown.{Unknown}
+use Rattle.ml_types.specs.Types.{parts_of, Tree, Trees}
 use Rattle.ml_typing.specs.Typing.{Assignment}
 use Rattle.hm_unify.specs.Solutions.{Bound, node_at, number_at, variable_of, link, Ends, here, there, Stands, variable, built, StandAll, none, more}
 use Rattle.hm_unify.proofs.Ends.{link-number, number-var}
-use Rattle.hm_terms.specs.Stores.{IsClosed, Store, SameNames, Reading, Reaches, at_end, in_part, IsBefore, IsOwn, IsReady, Extended, Grows}
+use Rattle.hm_terms.specs.Stores.{IsClosed, Store, Reading, Reaches, at_end, in_part, IsBefore, IsOwn, IsReady, Extended, Grows}
 
 -- more nodes at the end, and the same bindings
 pub record Longer (old new : Store) : Type 0 where

@@ -1,6 +1,6 @@
 -- Ids that are the types of shapes: what one more unknown or one more node gives, and that they stay so
 -- while the solver grows.
-use Rattle.std.proofs.Common.{◌≡◌, ℕ, zero, suc, ◌+◌, ◌<◌, ◌≤◌, ◌⊎◌, List, [], ◌∷◌, ◌++◌, length, Option, Some, None, get_or, refl, sym, ap, ◌∙◌, subst, inl, inr, ⊎_elim, arith, length-append}
+use Rattle.std.proofs.Common.{◌≡◌, ℕ, zero, suc, ◌+◌, ◌<◌, ◌⊎◌, List, [], ◌∷◌, ◌++◌, length, Option, Some, None, get_or, refl, sym, ap, ◌∙◌, subst, inl, inr, ⊎_elim, arith, length-append}
 use Rattle.std.specs.List.{slice_get}
 use Rattle.std.specs.Option.{option_and_then}
 use Rattle.std.proofs.lemmas.Option.{slice_get_within}
@@ -8,18 +8,18 @@ use Rattle.std.proofs.lemmas.Bool.{cases_eq}
 use Rattle.ml_types.specs.declared.node.TyId.{TyId}
 use Rattle.ml_types.specs.declared.node.TyNode.{TyNode}
 use Rattle.ml_types.specs.declared.node.TyNode.TheVariants.{Var, Con, Tuple, Arrow}
-use Rattle.ml_types.specs.Types.{Head, head_of, parts_of, Tree, Leaf, Node, Trees, Cons, trees}
+use Rattle.ml_types.specs.Types.{Head, head_of, parts_of, Tree, Node, Cons, trees}
 use Rattle.ml_typing.specs.declared.equation.Unknown.{Unknown}
 use Rattle.ml_typing.specs.declared.equation.Unknown.TheVariants as u
-use Rattle.ml_typing.specs.Terms.{Shape, Is, Make, Shapes, no_shapes, shape_and, shapes}
-use Rattle.ml_typing.specs.Typing.{Assignment, tree_of, trees_of, StandsIn, StandsInAny}
-use Rattle.hm_unify.specs.Solutions.{Bound, node_at, number_at, variable_of, link, Ends, here, Solves}
+use Rattle.ml_typing.specs.Terms.{Shape, Is, Make, shapes}
+use Rattle.ml_typing.specs.Typing.{Assignment, tree_of, trees_of, StandsInAny}
+use Rattle.hm_unify.specs.Solutions.{node_at, variable_of, link, Ends, here, Solves}
 use Rattle.hm_unify.proofs.Ends.{Ends-here, Ends-unique, var-number}
 use Rattle.hm_unify.proofs.Starts.{Ends-same}
-use Rattle.hm_terms.specs.Stores.{IsClosed, Store, AddsNode, AddsUnknown, Knows, Reading, Reaches, at_end, in_part, IsBefore, IsOwn, IsReady, Extended, Grows}
-use Rattle.hm_terms.specs.Shapes.{Holds, HoldAll, Lowers, LowersAll}
+use Rattle.hm_terms.specs.Stores.{Store, AddsNode, AddsUnknown, Knows, Reading, Reaches, at_end, in_part, IsBefore, IsOwn, IsReady, Extended, Grows}
+use Rattle.hm_terms.specs.Shapes.{Holds, HoldAll, Lowers}
 use Rattle.hm_terms.proofs.Pushes.{extended, extended_old, extended_new, built_tree, fresh_tree, Solves-push, closed_push}
-use Rattle.hm_terms.proofs.Growth.{Longer, longer, own_grows, reading_back, grows_same, grows_then, length_longer, before_back}
+use Rattle.hm_terms.proofs.Growth.{Longer, longer, own_grows, reading_back, grows_same, length_longer, before_back}
 
 at_last : {A : Type 0} (xs : List A) (x : A) → slice_get (xs ++ x ∷ []) (length xs) ≡ Some x
 at_last [] x = refl

@@ -1,5 +1,5 @@
 -- Pairs of numbers as the keys of a map.
-use Rattle.std.proofs.Common.{◌≡◌, ℕ, ◌⊎◌, Bool, true, false, List, Option, Some, nat_eq, inl, inr, ⊎_elim, refl, sym, ap, ◌∙◌}
+use Rattle.std.proofs.Common.{◌≡◌, ℕ, true, false, Option, ⊎_elim, refl, sym, ap, ◌∙◌}
 use Rattle.std.specs.Prelude.{◌&&◌, ◌==◌}
 use Rattle.std.proofs.lemmas.Bool.Decides.{eqb_tells}
 use Rattle.ml_types.specs.declared.node.TyId.{TyId}
@@ -13,10 +13,10 @@ pub pair_apart : (x y : ℕ × ℕ) → (x ≡ y → ⊥) → (x.0 == y.0 && x.1
 pair_apart x y d =
     ⊎_elim
     (λ (e : ((x.0 == y.0) ≡ true) × (x.0 ≡ y.0)).
-        ⊎_elim
-        (λ (f : ((x.1 == y.1) ≡ true) × (x.1 ≡ y.1)). absurd (d (same_pair x.0 y.0 x.1 y.1 e.1 f.1)))
-        (λ (f : ((x.1 == y.1) ≡ false) × (x.1 ≡ y.1 → ⊥)). ap (λ b. b && (x.1 == y.1)) e.0 ∙ f.0)
-        (eqb_tells x.1 y.1))
+    ⊎_elim
+    (λ (f : ((x.1 == y.1) ≡ true) × (x.1 ≡ y.1)). absurd (d (same_pair x.0 y.0 x.1 y.1 e.1 f.1)))
+    (λ (f : ((x.1 == y.1) ≡ false) × (x.1 ≡ y.1 → ⊥)). ap (λ b. b && (x.1 == y.1)) e.0 ∙ f.0)
+    (eqb_tells x.1 y.1))
     (λ (e : ((x.0 == y.0) ≡ false) × (x.0 ≡ y.0 → ⊥)). ap (λ b. b && (x.1 == y.1)) e.0)
     (eqb_tells x.0 y.0)
 

@@ -4,7 +4,7 @@ use Rattle.std.specs.List.{slice_get}
 use Rattle.ml_types.specs.Types.{TupleHead}
 use Rattle.ml_tree.specs.declared.reference.Op.{Op}
 use Rattle.ml_typing.specs.declared.equation.Unknown.{Unknown}
-use Rattle.ml_typing.specs.declared.equation.Term.{Term, fold-Term, fold-roll-Term, map-Term, roll-Term}
+use Rattle.ml_typing.specs.declared.equation.Term.{Term, fold-roll-Term, map-Term, roll-Term}
 use Rattle.ml_typing.specs.declared.equation.Term.TheOpen as t
 use Rattle.ml_typing.specs.declared.equation.Term.TheOpen.{Term-F}
 use Rattle.ml_typing.specs.declared.equation.Term.TheVariants as v

@@ -1,5 +1,5 @@
 -- Solutions of a table with one node more.
-use Rattle.std.proofs.Common.{◌≡◌, ℕ, ◌<◌, ◌⊎◌, true, false, cond, eqb, List, [], ◌∷◌, ◌++◌, length, Some, None, suc, refl, sym, ap, ◌∙◌, inl, inr, ⊎_elim, arith, get_or, length-append, subst, ◌+◌}
+use Rattle.std.proofs.Common.{◌≡◌, ℕ, ◌<◌, ◌⊎◌, true, false, cond, eqb, List, [], ◌∷◌, ◌++◌, length, Some, None, suc, refl, sym, ap, ◌∙◌, inl, inr, ⊎_elim, arith, get_or, length-append, ◌+◌}
 use Rattle.std.specs.List.{slice_get}
 use Rattle.std.specs.Option.{option_and_then}
 use Rattle.std.proofs.lemmas.Option.{slice_get_within}
@@ -9,7 +9,7 @@ use Rattle.ml_types.specs.declared.node.TyId.{TyId}
 use Rattle.ml_types.specs.declared.node.TyNode.{TyNode}
 use Rattle.ml_types.specs.declared.node.TyNode.TheVariants.{Var}
 use Rattle.ml_types.specs.Types.{Head, head_of, parts_of, Tree, Node, Cons, trees}
-use Rattle.hm_unify.specs.Solutions.{Bound, node_at, variable_of, Solves}
+use Rattle.hm_unify.specs.Solutions.{Bound, node_at, Solves}
 use Rattle.hm_unify.proofs.Ends.{link-number, var-number, number-var}
 use Rattle.hm_unify.proofs.Starts.{id-from}
 use Rattle.hm_unify.proofs.Growth.{at_push}

@@ -1,13 +1,12 @@
 -- A node with copies for its parts.
-use Rattle.std.proofs.Common.{◌≡◌, ℕ, suc, List, [], ◌∷◌, length, map, Option, Some, None, refl, sym, ap, ◌∙◌, subst, inl, inr}
+use Rattle.std.proofs.Common.{◌≡◌, ℕ, suc, List, [], ◌∷◌, length, map, Option, Some, refl, sym, ap, ◌∙◌, subst, inl, inr}
 use Rattle.ml_types.specs.declared.node.TyId.{TyId}
 use Rattle.ml_types.specs.declared.node.TyNode.{TyNode}
 use Rattle.ml_types.specs.declared.node.TyNode.TheVariants.{Con, Tuple, Arrow}
 use Rattle.ml_types.specs.Types.{Head, ConHead, TupleHead, ArrowHead, head_of, parts_of}
 use Rattle.hm_unify.specs.States.{IsHead}
-use Rattle.hm_terms.specs.Stores.{Store, state, AddsNode, IsReady, Grows}
-use Rattle.hm_terms.specs.Copies.{Table, Copied, Copies, AreCopies, Rebuilt}
-use Rattle.hm_terms.specs.Shapes.{Puts}
+use Rattle.hm_terms.specs.Stores.{Store, state, AddsNode}
+use Rattle.hm_terms.specs.Copies.{Table, Copies, AreCopies, Rebuilt}
 use Rattle.hm_terms.specs.declared.instance.Put.{Put}
 use Rattle.hm_terms.proofs.Growth.{grows_same}
 

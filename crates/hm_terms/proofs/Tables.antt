@@ -1,5 +1,5 @@
 -- Pairs of ids that lie in a table.
-use Rattle.std.proofs.Common.{◌≡◌, ℕ, zero, suc, ◌<◌, List, [], ◌∷◌, Some, slice_get, refl}
+use Rattle.std.proofs.Common.{◌≡◌, ℕ, zero, suc, ◌<◌, [], ◌∷◌, Some, slice_get, refl}
 use Rattle.ml_types.specs.declared.node.TyId.{TyId}
 use Rattle.hm_unify.specs.Solutions.{Pairs}
 use Rattle.hm_unify.specs.Closing.{PairsWithin}

@@ -1,15 +1,13 @@
 -- Terms with parts, from the types of the parts.
-use Rattle.std.proofs.Common.{◌≡◌, ℕ, ◌+◌, ◌<◌, ◌≤◌, List, [], ◌∷◌, ◌++◌, map, take, length, Option, Some, get_or, refl, sym, ap, ◌∙◌, subst}
+use Rattle.std.proofs.Common.{◌≡◌, ℕ, ◌+◌, ◌<◌, List, [], ◌∷◌, ◌++◌, map, take, length, get_or, refl, sym, subst}
 use Rattle.std.specs.List.{slice_get}
 use Rattle.std.proofs.lemmas.Option.{slice_get_read}
 use Rattle.ml_types.specs.declared.node.TyId.{TyId}
 use Rattle.ml_types.specs.declared.node.TyNode.TheVariants.{Tuple}
 use Rattle.ml_types.specs.declared.declared.DeclInfo.{DeclInfo}
-use Rattle.ml_types.specs.declared.declared.ConInfo.{ConInfo}
 use Rattle.ml_typing.specs.declared.equation.Term.{Term}
 use Rattle.ml_typing.specs.declared.equation.Term.TheVariants as v
-use Rattle.ml_typing.specs.Terms.{Context, Shape, Make, shapes, argument, field, made, named, function, cons_of, fields_of, shape_of}
-use Rattle.ml_types.specs.Types.{TupleHead}
+use Rattle.ml_typing.specs.Terms.{Context, Shape, argument, field, made, named, function, cons_of, fields_of, shape_of}
 use Rattle.hm_terms.specs.Stores.{Store, AddsNode, IsReady}
 use Rattle.hm_terms.specs.Shapes.{Holds, HoldAll, Lowers, LowersAll}
 use Rattle.hm_terms.specs.Contexts.{IsRead}

@@ -5,12 +5,12 @@ use Rattle.std.specs.Option.{option_map}
 use Rattle.std.proofs.lemmas.List.{map-append, drop_all}
 use Rattle.ml_types.specs.declared.node.TyId.{TyId}
 use Rattle.ml_types.specs.declared.node.TyNode.TheVariants.{Arrow}
-use Rattle.ml_types.specs.Types.{Tree, ArrowHead}
+use Rattle.ml_types.specs.Types.{Tree}
 use Rattle.ml_types.specs.declared.declared.ArgInfo.{ArgInfo}
-use Rattle.ml_typing.specs.Terms.{Shape, Make, shape_and, no_shapes, at_fresh, function, Context, shape_of}
+use Rattle.ml_typing.specs.Terms.{Shape, at_fresh, function, Context, shape_of}
 use Rattle.ml_typing.specs.declared.equation.Term.{Term}
 use Rattle.hm_unify.specs.Solutions.{Stands}
-use Rattle.hm_terms.specs.Stores.{Store, AddsNode, IsReady, Grows}
+use Rattle.hm_terms.specs.Stores.{Store, AddsNode, IsReady}
 use Rattle.hm_terms.specs.Shapes.{Holds, HoldAll, Lowers, LowersAll}
 use Rattle.hm_terms.specs.Contexts.{Shows, AllShow}
 use Rattle.hm_terms.proofs.Holding.{holds_grows, hold_length}

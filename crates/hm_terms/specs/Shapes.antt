@@ -1,14 +1,12 @@
 -- Ids that are the types of shapes.
-use Rattle.std.specs.Prelude.{◌≡◌, ℕ, ◌<◌, List, [], ◌∷◌, length, Option, Some, None, slice_get, nat_eq}
-use Rattle.std.specs.HashMap.{get}
+use Rattle.std.specs.Prelude.{◌≡◌, ℕ, ◌<◌, List, [], ◌∷◌, length, Some}
 use Rattle.ml_types.specs.declared.node.TyId.{TyId}
 use Rattle.ml_types.specs.Types.{Tree}
 use Rattle.ml_typing.specs.declared.equation.Unknown.{Unknown}
 use Rattle.ml_typing.specs.declared.equation.Unknown.TheVariants.{Fresh}
-use Rattle.ml_typing.specs.Terms.{Shape, Is, shape_at, with_shapes}
+use Rattle.ml_typing.specs.Terms.{Shape, Is, shape_at}
 use Rattle.ml_typing.specs.Typing.{Assignment, tree_of, StandsIn}
-use Rattle.hm_unify.specs.Solutions.{Stands}
-use Rattle.hm_terms.specs.Stores.{Store, Reading, IsOwn, IsReady, Grows}
+use Rattle.hm_terms.specs.Stores.{Store, Reading, IsOwn, Grows}
 use Rattle.hm_terms.specs.declared.instance.Put.{Put}
 use Rattle.hm_terms.specs.declared.instance.Put.TheVariants.{Arguments, Fresh as FreshAt}
 

@@ -167,11 +167,7 @@ fn whole_argument(solver: &mut Solver, args: &[ArgInfo], node: u32) -> Result<Ty
 }
 
 /// The types of a constructor's fields at the fresh types of a node.
-fn argument_types(
-    solver: &mut Solver,
-    args: &[ArgInfo],
-    node: u32,
-) -> Result<Items<TyId>, NoMemory>
+fn argument_types(solver: &mut Solver, args: &[ArgInfo], node: u32) -> Result<Items<TyId>, NoMemory>
     ensures { IfOk result (λ xs. (declared : TyIdValue → Tree) → IsReady (store solver.old) → AllShow (store solver.old) declared args.now → LowersAll (store solver.old) (store solver.new) (map (λ (a : ArgValue). at_fresh node (declared a.ty)) args.now) xs) }
 {
     let mut ids = Items::new(solver.alloc);

@@ -1,4 +1,4 @@
-use Rattle.std.proofs.Common.{◌≡◌, take, map, nat_eq}
+use Rattle.std.proofs.Common.{take, nat_eq}
 use Rattle.std.specs.HashMap.{get}
 use Rattle.hm_terms.specs.Copies.{AreCopies}
 use Rattle.hm_terms.proofs.instance.copies_of.Given as goal

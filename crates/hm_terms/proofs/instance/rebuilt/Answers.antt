@@ -1,4 +1,4 @@
-use Rattle.std.proofs.Common.{◌≡◌, List, nat_eq, refl, sym, ◌∙◌, subst}
+use Rattle.std.proofs.Common.{List, nat_eq, refl, sym, ◌∙◌, subst}
 use Rattle.std.specs.HashMap.{get}
 use Rattle.std.proofs.lemmas.Result.{IfOk-weaker}
 use Rattle.ml_types.specs.declared.node.TyId.{TyId}

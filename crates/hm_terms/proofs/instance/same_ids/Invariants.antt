@@ -1,4 +1,4 @@
-use Rattle.std.proofs.Common.{◌≡◌, ◌<◌, ℕ, take}
+use Rattle.std.proofs.Common.{◌≡◌, take}
 use Rattle.hm_terms.proofs.instance.same_ids.Given as goal
 
 abbrev pub invariant-loop-at : goal.invariant-loop-at

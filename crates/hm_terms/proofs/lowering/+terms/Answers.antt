@@ -51,7 +51,7 @@ type_of-returns-in_ok-ids-in-Tuple t c = IfOk-weaker c.add.result _ _
 pub type_of-returns-in_ok-to-in-Function : goal.type_of-returns-in_ok-to-in-Function
 type_of-returns-in_ok-to-in-Function t c = IfOk-weaker c.function_type.result _ _
     (λ x l d k. function_term (store c.args.solver.now) (store c.types_of-in-Function.new.solver) (store c.type_of.new.solver) (store c.function_type.new.solver) c.args.d.now.types d c.args.term.now c.in-Function.result c.get.result.now c.in-Function.params c.as_slice-in-Function.result.now c.in_ok-ids-in-Function.ids c.as_slice-in-Function-2.result.now c.in_ok-to-in-Function.to x
-        c.in-Function.is c.as_slice-in-Function.ensures c.get.ensures c.as_slice-in-Function-2.ensures k (c.in_ok-ids-in-Function.ensures d k) c.in_ok-to-in-Function.ensures l)
+    c.in-Function.is c.as_slice-in-Function.ensures c.get.ensures c.as_slice-in-Function-2.ensures k (c.in_ok-ids-in-Function.ensures d k) c.in_ok-to-in-Function.ensures l)
     c.function_type.ensures
 
 pub types_of-loop-term-init : goal.types_of-loop-term-init

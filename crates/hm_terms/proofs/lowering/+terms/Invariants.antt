@@ -1,4 +1,4 @@
-use Rattle.std.proofs.Common.{List, map, take}
+use Rattle.std.proofs.Common.{map, take}
 use Rattle.ml_typing.specs.Terms.{Context, shape_of}
 use Rattle.hm_terms.specs.Stores.{store}
 use Rattle.hm_terms.specs.Shapes.{LowersAll}

@@ -1,4 +1,4 @@
-use Rattle.std.proofs.Common.{List, [], map, ap, sym, subst}
+use Rattle.std.proofs.Common.{List, [], map, sym, subst}
 use Rattle.ml_types.specs.declared.node.TyId.{TyId}
 use Rattle.ml_types.specs.declared.declared.ArgInfo.{ArgInfo}
 use Rattle.ml_typing.specs.Terms.{at_fresh}

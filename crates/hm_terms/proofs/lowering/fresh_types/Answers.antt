@@ -1,4 +1,4 @@
-use Rattle.std.proofs.Common.{◌≡◌, ℕ, List, [], sym, ap, subst}
+use Rattle.std.proofs.Common.{List, [], sym, subst}
 use Rattle.ml_types.specs.declared.node.TyId.{TyId}
 use Rattle.ml_typing.specs.declared.equation.Unknown.TheVariants.{Fresh}
 use Rattle.ml_typing.specs.Terms.{Is, fresh_from}

@@ -1,4 +1,4 @@
-use Rattle.std.proofs.Common.{◌≡◌, List, length, ap, sym, ◌∙◌, subst, refl}
+use Rattle.std.proofs.Common.{length, ap, sym, ◌∙◌, refl}
 use Rattle.std.proofs.lemmas.Result.{IfOk-weaker}
 use Rattle.hm_terms.specs.Stores.{store}
 use Rattle.hm_terms.proofs.Building.{only_product, several_product}
