@@ -1,0 +1,13 @@
+pub mod Pushes
+pub mod Growth
+pub mod Keys
+pub mod Holding
+pub mod Putting
+pub mod Copying
+pub mod Rebuilding
+pub mod Building
+pub mod Contexts
+pub mod Layers
+pub mod Walking
+pub mod Terms
+pub mod Tables

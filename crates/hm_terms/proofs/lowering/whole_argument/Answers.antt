@@ -1,0 +1,15 @@
+use Rattle.std.proofs.Common.{map}
+use Rattle.std.proofs.lemmas.Result.{IfOk-weaker}
+use Rattle.ml_types.specs.declared.declared.ArgInfo.{ArgInfo}
+use Rattle.ml_typing.specs.Terms.{at_fresh, product}
+use Rattle.hm_terms.specs.Stores.{store}
+use Rattle.hm_terms.proofs.Building.{lowers_then}
+use Rattle.hm_terms.proofs.lowering.whole_argument.Goals as goal
+
+pub returns : goal.returns
+returns c = IfOk-weaker c.product_type.result _ _
+    (λ x p declared r shows.
+    let l = c.in_ok-ids.ensures declared r shows in
+    let hs = map (λ (a : ArgInfo). at_fresh c.args.node (declared a.ty)) c.args.args.now in
+    lowers_then (store c.args.solver.now) (store c.argument_types.new.solver) (store c.product_type.new.solver) (product hs) x l.grows (p hs (l.grows.ready r) l.hold))
+    c.product_type.ensures

@@ -1,0 +1,4 @@
+pub mod Stores
+pub mod Shapes
+pub mod Contexts
+pub mod Copies

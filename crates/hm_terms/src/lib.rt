@@ -1,0 +1,13 @@
+//! The types of one item's unknowns as bindings, and the types that terms stand for under them.
+#![tactic(auto)]
+
+mod counted;
+mod ids;
+mod instance;
+mod lowering;
+mod nodes;
+mod solver;
+
+pub use ids::Ids;
+pub use lowering::type_of;
+pub use solver::Solver;
