@@ -6,8 +6,9 @@ use crate::world::World;
 use ml_functions::{Body, Function};
 use ml_meaning::{Ending, Event};
 use ml_tree::Arm;
+use ml_matching::{fit_params, fits};
 use ml_values::{
-    Code, Env, Failure, Mode, Word, Words, and, bind, count, fit_params, fits, leave, local, made, operate,
+    Code, Env, Failure, Mode, Word, Words, and, bind, count, leave, local, made, operate,
 };
 use oxml_base::NoMemory;
 
@@ -47,7 +48,7 @@ fn split<'a>(
             Words::Empty => return Err(NoMemory),
         }
     }
-    if count(rest) == 0 {
+    if count(rest)? == 0 {
         return Ok((words, rest));
     }
     let mut first = Words::Empty;
@@ -109,13 +110,13 @@ pub fn apply<'a>(
         return Err(NoMemory);
     };
     let arity = world.arity(code);
-    let has = count(held);
+    let has = count(held)? as usize;
     if arity <= has {
         return Err(NoMemory);
     }
-    if count(args) < arity - has {
+    if (count(args)? as usize) < arity - has {
         let held = append(world, held, args)?;
-        made(told, node, (count(held) as u64).saturating_add(2))?;
+        made(told, node, (count(held)? as u64).saturating_add(2))?;
         leave(told, here.mode)?;
         return Ok(go_on(Next::Give(Word::Function(code, captured, held))));
     }

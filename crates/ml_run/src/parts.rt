@@ -5,7 +5,8 @@ use crate::frame::{Finish, Here, Next, Step, Then, go_on, evaluate_then};
 use crate::world::World;
 use ml_meaning::Event;
 use ml_tree::{FieldExpr, Op};
-use ml_values::{Failure, Given, Word, Words, and, count, fit_binds, made, operate};
+use ml_matching::fit_binds;
+use ml_values::{Failure, Given, Word, Words, and, count, made, operate};
 use ml_words::{field_place, operation_arity};
 use oxml_base::NoMemory;
 
@@ -16,7 +17,7 @@ fn build<'a>(
     parts: Words<'a>,
     here: Here<'a>,
 ) -> Result<Step<'a>, NoMemory> {
-    made(told, node, (count(parts) as u64).saturating_add(1))?;
+    made(told, node, (count(parts)? as u64).saturating_add(1))?;
     finish(told, here.mode, Word::Block(place, parts))
 }
 
@@ -61,7 +62,7 @@ fn operate_parts<'a>(
     parts: Words<'a>,
     here: Here<'a>,
 ) -> Result<Step<'a>, NoMemory> {
-    if count(parts) != operation_arity(op) {
+    if count(parts)? != operation_arity(op) as u64 {
         return over_applied(world, told, node, op, parts);
     }
     let given = operate(world.tools, told, Some(node), op, parts)?;
@@ -113,7 +114,7 @@ pub fn complete<'a>(
         Finish::Overwrite(node, place) => {
             told.push(Event::Over {
                 node,
-                words: (count(parts) as u64).saturating_add(1),
+                words: (count(parts)? as u64).saturating_add(1),
             })?;
             finish(told, here.mode, Word::Block(place, parts))
         }

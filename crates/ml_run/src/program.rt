@@ -9,7 +9,8 @@ use bumpalo::Bump;
 use ml_functions::{functions, weighed_binds};
 use ml_meaning::{Ending, Event};
 use ml_tree::{Bind, Item, ItemKind, Program, Scoped};
-use ml_values::{Env, Failure, Mode, Tools, Word, Words, and, fail, fit_binds};
+use ml_matching::fit_binds;
+use ml_values::{Env, Failure, Mode, Tools, Word, Words, and, fail};
 use oxml_base::NoMemory;
 use std::alloc::Global;
 
