@@ -1,10 +1,4 @@
 //! What is left to do behind the expression that is being evaluated.
-ghost use Rattle.std.specs.Prelude.{◌≡◌, length, slice_get, []};
-ghost use Rattle.std.specs.Option.{option_map};
-ghost use Rattle.ml_meaning.specs.declared.event.Event.{Event};
-ghost use Rattle.ml_meaning.specs.Tellings.{Setting};
-ghost use Rattle.ml_values.specs.declared.told.Mode.TheVariants.{Inner};
-ghost use Rattle.ml_steps.specs.Left.{bind_value, followed, frame_run, inner_run, next_run, part_run, parts_runs, step_run, then_run};
 
 use ml_meaning::Ending;
 use ml_tree::{Arm, BinOp, Bind, Expr, FieldExpr, Op};
@@ -17,34 +11,6 @@ pub struct Here<'a> {
     pub mode: Mode,
     pub env: Env<'a>,
     pub fuel: u64,
-}
-
-impl<'a> Here<'a> {
-    /// The same place, but not in tail position.
-    pub fn inner(self) -> Here<'a>
-        ensures mode { result.mode ≡ Inner }
-        ensures env { result.env ≡ self.entry.env }
-        ensures fuel { result.fuel ≡ self.entry.fuel }
-    {
-        Here {
-            mode: Mode::Inner,
-            env: self.env,
-            fuel: self.fuel,
-        }
-    }
-
-    /// The same place with other names.
-    pub fn with(self, env: Env<'a>) -> Here<'a>
-        ensures mode { result.mode ≡ self.entry.mode }
-        ensures env { result.env ≡ env.entry }
-        ensures fuel { result.fuel ≡ self.entry.fuel }
-    {
-        Here {
-            mode: self.mode,
-            env,
-            fuel: self.fuel,
-        }
-    }
 }
 
 /// Parts that are evaluated right to left.
@@ -64,56 +30,6 @@ pub enum Part<'a> {
     Evaluate(&'a Expr),
     /// The function of this node is made.
     Close(u32),
-}
-
-fn bound_part<'a>(bind: &'a Bind) -> Part<'a>
-    ensures { (s : Setting Event) → part_run s result ≡ bind_value s bind.entry.now }
-{
-    if bind.params.len() == 0 {
-        return Part::Evaluate(&bind.body);
-    }
-    Part::Close(bind.pat.id)
-}
-
-impl<'a> Parts<'a> {
-    /// How many there are.
-    pub fn len(self) -> usize
-        ensures { (s : Setting Event) → result ≡ length (parts_runs s self.entry) }
-    {
-        match self {
-            Parts::One(_) => 1,
-            Parts::Two(_, _) => 2,
-            Parts::Many(list) => list.len(),
-            Parts::Fields(list) => list.len(),
-            Parts::Binds(list) => list.len(),
-        }
-    }
-
-    /// The part at this place; `None` where there are not as many.
-    pub fn get(self, at: usize) -> Option<Part<'a>>
-        ensures { (s : Setting Event) → option_map (part_run s) result ≡ slice_get (parts_runs s self.entry) at }
-    {
-        match self {
-            Parts::One(only) => if at == 0 { Some(Part::Evaluate(only)) } else { None },
-            Parts::Two(one, other) => match at {
-                0 => Some(Part::Evaluate(one)),
-                1 => Some(Part::Evaluate(other)),
-                _ => None,
-            },
-            Parts::Many(list) => match list.get(at) {
-                Some(e) => Some(Part::Evaluate(e)),
-                None => None,
-            },
-            Parts::Fields(list) => match list.get(at) {
-                Some(field) => Some(Part::Evaluate(&field.expr)),
-                None => None,
-            },
-            Parts::Binds(list) => match list.get(at) {
-                Some(bind) => Some(bound_part(bind)),
-                None => None,
-            },
-        }
-    }
 }
 
 /// What is done with the values of all parts.
@@ -209,26 +125,3 @@ pub struct Step<'a> {
     pub frame: Option<Frame<'a>>,
 }
 
-/// A step with nothing more behind it.
-pub fn go_on<'a>(next: Next<'a>) -> Step<'a>
-    ensures { (s : Setting Event) → step_run s result ≡ next_run s next.entry }
-{
-    Step { next, frame: None }
-}
-
-/// A step with this to do behind it.
-pub fn go_on_then<'a>(next: Next<'a>, then: Then<'a>, here: Here<'a>) -> Step<'a>
-    ensures { (s : Setting Event) → step_run s result ≡ followed (next_run s next.entry) (then_run s then.entry here.entry) }
-{
-    Step {
-        next,
-        frame: Some(Frame { then, here }),
-    }
-}
-
-/// A step that evaluates an expression, and then does more with its value.
-pub fn evaluate_then<'a>(e: &'a Expr, then: Then<'a>, here: Here<'a>) -> Step<'a>
-    ensures { (s : Setting Event) → step_run s result ≡ followed (inner_run s e.entry.now here.entry) (then_run s then.entry here.entry) }
-{
-    go_on_then(Next::Visit(e, here.inner()), then, here)
-}
