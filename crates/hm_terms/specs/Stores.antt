@@ -1,6 +1,6 @@
 -- The solver of one item as what it knows: the bindings, the types of unknowns and of names, and which
 -- nodes were there before the item.
-use Rattle.std.specs.Prelude.{◌≡◌, ◌⊎◌, ℕ, ◌<◌, ◌≤◌, List, ◌++◌, length, Option, Some, None, slice_get, slice_index_or, nat_eq, ◌&&◌, ◌==◌}
+use Rattle.std.specs.Prelude.{◌≡◌, ◌⊎◌, ℕ, ◌<◌, ◌≤◌, List, [], ◌∷◌, ◌++◌, length, Option, Some, None, slice_get, slice_index_or, nat_eq, ◌&&◌, ◌==◌}
 use Rattle.std.specs.HashMap.{get}
 use Rattle.ml_types.specs.declared.node.TyId.{TyId}
 use Rattle.ml_types.specs.declared.node.TyNode.{TyNode}
@@ -106,3 +106,31 @@ pub record Grows (old new : Store) : Type 0 where
   pub names : SameNames old new
   pub ready : IsReady old → IsReady new
   pub extends : IsReady old → (t : TyId → Tree) (a : Assignment) → Reading old t a → Extended old new t a
+
+-- a name more has a scheme, or another one
+pub record Generalises (old new : Store) (binder : ℕ) (id : TyId) : Type 0 where
+  pub nodes : new.nodes ≡ old.nodes
+  pub bound : new.bound ≡ old.bound
+  pub ids : (u : Unknown) → new.ids u ≡ old.ids u
+  pub there : new.schemes binder ≡ Some id
+  pub others : (b : ℕ) → (b ≡ binder → ⊥) → new.schemes b ≡ old.schemes b
+  pub operations : new.operations ≡ old.operations
+  pub mark : new.mark ≡ old.mark
+
+-- an operation more has a type
+pub record AddsOperation (old new : Store) (id : TyId) : Type 0 where
+  pub nodes : new.nodes ≡ old.nodes
+  pub bound : new.bound ≡ old.bound
+  pub ids : (u : Unknown) → new.ids u ≡ old.ids u
+  pub schemes : (b : ℕ) → new.schemes b ≡ old.schemes b
+  pub operations : new.operations ≡ old.operations ++ id ∷ []
+  pub mark : new.mark ≡ old.mark
+
+-- no unknown has come up, and all nodes are from before
+pub record Forgets (old new : Store) : Type 0 where
+  pub nodes : new.nodes ≡ old.nodes
+  pub bound : new.bound ≡ old.bound
+  pub none : (u : Unknown) → new.ids u ≡ None
+  pub schemes : (b : ℕ) → new.schemes b ≡ old.schemes b
+  pub operations : new.operations ≡ old.operations
+  pub mark : new.mark ≡ length old.nodes

@@ -1,6 +1,8 @@
 //! Bindings that know how many nodes they have, so that ids can be tested.
-ghost use Rattle.std.specs.Prelude.{◌≡◌, ◌≤◌, length, OnOk, OnErr, IfErr, IfOk, IfSome, IsNone};
-ghost use Rattle.hm_unify.specs.States.{IsTable, IsNew, IsHead, Adds, AddsFresh, PartsWithin, Equated, Refused};
+ghost use Rattle.std.specs.Prelude.{◌≡◌, ◌≤◌, length, min, OnOk, OnErr, IfErr, IfOk, IfSome, IsNone};
+ghost use Rattle.ml_types.specs.Types.{Tree, tree_size};
+ghost use Rattle.hm_unify.specs.Solutions.{Stands};
+ghost use Rattle.hm_unify.specs.States.{IsTable, IsNew, IsHead, IsSound, IsTableOf, Adds, AddsFresh, PartsWithin, Equated, Refused};
 
 use crate::nodes::{pairs_within, parts_within};
 use hm_unify::{Bindings, UnifyErr};
@@ -78,5 +80,30 @@ impl Counted {
         } else {
             None
         }
+    }
+
+    /// Says what holds of bindings at any time. Does nothing.
+    pub fn sound(&self)
+        ensures { IsSound self.now.bindings.nodes self.now.bindings.bound }
+    {
+        self.bindings.sound()
+    }
+
+    /// How many nodes the type of an id has as a tree, counted up to 2,001; 0 where there is no such id.
+    pub fn size(&self, id: TyId) -> u64
+        ensures { (t : Tree) → Stands self.now.bindings.nodes self.now.bindings.bound id t → result ≡ min (tree_size t) 2001 }
+    {
+        if (id.0 as u64) < self.count {
+            self.bindings.size(id)
+        } else {
+            0
+        }
+    }
+
+    /// The table in which every id has the node that stands for it.
+    pub fn table(self) -> Result<TyTable, NoMemory>
+        ensures { IfOk result (λ t. IsTableOf self.bindings t.nodes) }
+    {
+        self.bindings.table()
     }
 }

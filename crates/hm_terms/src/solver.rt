@@ -1,10 +1,12 @@
 //! The solver of one item: its unknowns' types over the types of all items before it.
-ghost use Rattle.std.specs.Prelude.{◌≡◌, ◌+◌, ◌≤◌, ℕ, length, None, [], OnOk, OnErr, IfErr, IfOk, IfSome, IsNone, nat_eq, slice_get};
+ghost use Rattle.std.specs.Prelude.{◌≡◌, ◌+◌, ◌≤◌, ℕ, length, min, None, [], OnOk, OnErr, IfErr, IfOk, IfSome, IsNone, nat_eq, slice_get};
 ghost use Rattle.std.specs.HashMap.{get};
+ghost use Rattle.ml_types.specs.Types.{Tree, tree_size};
 ghost use Rattle.ml_types.specs.declared.node.TyNode.TheVariants.{Arrow, Tuple};
 ghost use Rattle.ml_typing.specs.declared.equation.Unknown.{Unknown as UnknownValue};
-ghost use Rattle.hm_unify.specs.States.{IsTable, IsNew, IsHead, Equated, Refused};
-ghost use Rattle.hm_terms.specs.Stores.{store, state, id_of, AddsNode, Knows, SameNames};
+ghost use Rattle.hm_unify.specs.Solutions.{Stands};
+ghost use Rattle.hm_unify.specs.States.{IsTable, IsNew, IsHead, IsSound, IsTableOf, Equated, Refused};
+ghost use Rattle.hm_terms.specs.Stores.{store, state, id_of, AddsNode, AddsOperation, Forgets, Generalises, Knows, SameNames};
 ghost use Rattle.hm_terms.specs.Contexts.{op_place};
 
 use crate::counted::Counted;
@@ -135,5 +137,60 @@ impl Solver {
         let slot = self.slots;
         self.slots = slot.checked_add(1).ok_or(NoMemory)?;
         self.add(TyNode::Arrow { slot, from, to })
+    }
+
+    /// Says what holds of bindings at any time. Does nothing.
+    pub fn sound(&self)
+        ensures { IsSound (store self.now).nodes (store self.now).bound }
+    {
+        self.table.sound()
+    }
+
+    /// How many nodes the type of an id has as a tree, counted up to 2,001; 0 where there is no such id.
+    pub fn size(&self, id: TyId) -> u64
+        ensures { (t : Tree) → Stands (store self.now).nodes (store self.now).bound id t → result ≡ min (tree_size t) 2001 }
+    {
+        self.table.size(id)
+    }
+
+    /// From now on the name of an item has this type as its scheme.
+    pub fn generalise(&mut self, binder: u32, id: TyId) -> Result<(), NoMemory>
+        ensures generalises { OnOk result (Generalises (store self.old) (store self.new) binder id) }
+        ensures slots { self.new.slots ≡ self.old.slots }
+    {
+        self.schemes.insert(binder, id)?;
+        Ok(())
+    }
+
+    /// The next operation has this type.
+    pub fn add_operation(&mut self, id: TyId) -> Result<(), NoMemory>
+        ensures adds { OnOk result (AddsOperation (store self.old) (store self.new) id) }
+        ensures slots { self.new.slots ≡ self.old.slots }
+    {
+        self.operations.push(id)?;
+        Ok(())
+    }
+
+    /// Forgets the unknowns of the item: what there is now was there before the next item.
+    pub fn next_item(&mut self)
+        ensures forgets { Forgets (store self.old) (store self.new) }
+        ensures slots { self.new.slots ≡ self.old.slots }
+    {
+        self.mark = self.table.count();
+        self.ids = Ids::new(self.alloc);
+    }
+
+    /// The first slot that no arrow has.
+    pub fn slots(&self) -> u32
+        ensures { result ≡ self.now.slots }
+    {
+        self.slots
+    }
+
+    /// The table in which every id has the node that stands for it.
+    pub fn table(self) -> Result<TyTable, NoMemory>
+        ensures { IfOk result (λ t. IsTableOf (state (store self)) t.nodes) }
+    {
+        self.table.table()
     }
 }

@@ -1,7 +1,7 @@
 ghost use Rattle.std.specs.Prelude.{◌≡◌, ℕ, ◌<◌, ◌^◌, length, min, IfOk, IfErr, OnOk, OnErr, None, Some, slice_index_or};
 ghost use Rattle.ml_types.specs.Types.{Tree, tree_size, parts_of};
 ghost use Rattle.hm_unify.specs.Solutions.{Stands};
-ghost use Rattle.hm_unify.specs.States.{State, IsTable, IsNew, IsUnchanged, Adds, AddsFresh, PartsWithin, IsHead, IsTableOf, Equated, Refused, IsTabled};
+ghost use Rattle.hm_unify.specs.States.{State, IsTable, IsNew, IsUnchanged, Adds, AddsFresh, PartsWithin, IsHead, IsTableOf, Equated, Refused, IsTabled, IsSound};
 ghost use Rattle.hm_unify.specs.Closing.{PairsWithin};
 
 use crate::bound::end_of;
@@ -132,4 +132,18 @@ impl Bindings {
         let nodes = heads(alloc, nodes.as_slice(), bound.as_slice())?;
         Ok(TyTable { nodes })
     }
+
+    /// Says what holds of bindings at any time: their ids lie in the table, chains of bound variables
+    /// end, and some finite types solve them. Does nothing.
+    pub fn sound(&self)
+        ensures { IsSound self.now.nodes self.now.bound }
+    {
+        shown(self.nodes.as_slice(), self.bound.as_slice())
+    }
 }
+
+/// Shows what holds of the bindings in hand.
+fn shown(nodes: &[TyNode], bound: &[Option<TyId>])
+    requires { IsSound nodes.now bound.now }
+    ensures { IsSound nodes.now bound.now }
+{}
