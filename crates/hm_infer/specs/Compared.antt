@@ -1,0 +1,22 @@
+-- The first comparison of an item at a type that has none.
+use Rattle.std.specs.Prelude.{◌≡◌, ℕ, List, take, Option, Some, None, slice_get}
+use Rattle.oxml_base.specs.declared.span.Span.{Span}
+use Rattle.ml_typing.specs.declared.equation.Unknown.{Unknown}
+use Rattle.ml_typing.specs.declared.equation.Step.{Step}
+use Rattle.ml_typing.specs.Typing.{Assignment}
+use Rattle.ml_typing.specs.Refusals.{CanCompare, Compares}
+
+pub record IsBadAmong (steps : List Step) (a : Assignment) (span : Span) : Type 0 where
+  pub k : ℕ
+  pub step : Step
+  pub operands : Unknown
+  pub at : slice_get steps k ≡ Some step
+  pub compares : step.compared ≡ Some operands
+  pub bad : CanCompare (a operands) → ⊥
+  pub steps_before : Compares (take k steps) a
+  pub span_is : span ≡ step.span
+
+-- all comparisons are good, or this is the first that is not
+abbrev pub FirstBad : List Step → Assignment → Option Span → Type 0
+FirstBad steps a None = Compares steps a
+FirstBad steps a (Some span) = IsBadAmong steps a span

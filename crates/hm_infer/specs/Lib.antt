@@ -1,0 +1,7 @@
+pub mod Running
+pub mod Starts
+pub mod Sizes
+pub mod Compared
+pub mod Closing
+pub mod Tables
+pub mod Answers

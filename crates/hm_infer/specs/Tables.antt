@@ -1,0 +1,56 @@
+-- The types of a program as a table.
+use Rattle.std.specs.Prelude.{◌≡◌, ℕ, ◌+◌, ◌<◌, Bool, true, cond, nat_eq, false, List, [], ◌∷◌, ◌++◌, length, Option, Some, None, slice_get}
+use Rattle.ml_types.specs.declared.node.TyId.{TyId}
+use Rattle.ml_types.specs.declared.node.TyNode.{TyNode}
+use Rattle.ml_types.specs.declared.node.TyNode.TheVariants.{Arrow}
+use Rattle.ml_types.specs.declared.node.Scheme.{Scheme}
+use Rattle.ml_types.specs.Types.{Tree, Leaf, Node, Trees, Nil, Cons}
+use Rattle.ml_typing.specs.declared.typed.Typed.{Typed}
+use Rattle.hm_unify.specs.Solutions.{Stands}
+
+-- the numbers of a list with those of another behind them, each once
+abbrev pub is_in : List ℕ → ℕ → Bool
+is_in [] n = false
+is_in (m ∷ ms) n = cond (nat_eq m n) true (is_in ms n)
+
+abbrev pub with_number : List ℕ → ℕ → List ℕ
+with_number seen n = cond (is_in seen n) seen (seen ++ n ∷ [])
+
+-- the variables of a type in the order of first use, behind those that were seen
+abbrev mutual
+  pub uses_behind : List ℕ → Tree → List ℕ
+  uses_behind seen (Leaf n) = with_number seen n
+  uses_behind seen (Node h ts) = all_uses_behind seen ts
+
+  pub all_uses_behind : List ℕ → Trees → List ℕ
+  all_uses_behind seen Nil = seen
+  all_uses_behind seen (Cons t ts) = all_uses_behind (uses_behind seen t) ts
+
+abbrev pub variables : Tree → List ℕ
+variables t = uses_behind [] t
+
+-- the slots of a table's arrows lie below a number
+abbrev pub AreSlotsBelow : List TyNode → ℕ → Type 0
+AreSlotsBelow nodes slots = (i slot : ℕ) (from to : TyId) → slice_get nodes i ≡ Some (Arrow slot from to) → slot < slots
+
+-- every variable of the type is generalised, in the order of first use
+pub record IsScheme (ty : TyId) (w : Tree) (s : Scheme) : Type 0 where
+  pub ty_is : s.ty ≡ ty
+  pub vars_are : s.vars ≡ variables w
+
+-- a scheme whose id stands for a type in a table without bindings
+abbrev pub IsSchemeIn : List TyNode → Tree → Scheme → Type 0
+IsSchemeIn table w s = Stands table [] s.ty w × (s.vars ≡ variables w)
+
+-- the schemes of the names below a number, in the order of their numbers
+pub data Collects (table : List TyNode) (schemes : ℕ → Option Tree) : ℕ → List Scheme → Type 0 where
+  none_yet : Collects table schemes 0 []
+  no_name : (n : ℕ) (ss : List Scheme) → schemes n ≡ None → Collects table schemes n ss → Collects table schemes (n + 1) ss
+  a_name : (n : ℕ) (w : Tree) (s : Scheme) (ss : List Scheme) → schemes n ≡ Some w → IsSchemeIn table w s → Collects table schemes n ss → Collects table schemes (n + 1) (ss ++ s ∷ [])
+
+-- a table with the types of the nodes and the schemes of the names
+pub record Fills (noted named : ℕ → Option Tree) (count : ℕ) (typed : Typed) : Type 0 where
+  pub node_count : length typed.node ≡ count
+  pub nodes : (n : ℕ) (x : TyId) → slice_get typed.node n ≡ Some x → (w : Tree) × (noted n ≡ Some w) × Stands typed.table.nodes [] x w
+  pub schemes : Collects typed.table.nodes named count typed.schemes
+  pub slots : AreSlotsBelow typed.table.nodes typed.slots

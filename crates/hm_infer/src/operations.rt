@@ -1,0 +1,69 @@
+//! The solver before the first item: the declared types, and those of the predefined operations.
+ghost use Rattle.std.specs.Prelude.{IfOk, OnOk, List, [], length};
+ghost use Rattle.ml_types.specs.declared.node.TyId.{TyId as TyIdValue};
+ghost use Rattle.ml_types.specs.declared.node.TyNode.TheVariants.{Con};
+ghost use Rattle.ml_types.specs.declared.declared.DeclInfo.{DeclInfo};
+ghost use Rattle.ml_types.specs.Types.{Tree};
+ghost use Rattle.ml_typing.specs.Typing.{Reads, first_context};
+ghost use Rattle.hm_unify.specs.States.{IsTable};
+ghost use Rattle.hm_terms.specs.Stores.{store, AddsNode};
+ghost use Rattle.hm_terms.specs.Contexts.{IsRead};
+ghost use Rattle.hm_infer.specs.Starts.{AreWithin, AddsFunction};
+ghost use Rattle.hm_infer.specs.Running.{HasNoIds};
+
+use crate::table::slots_of;
+use hm_terms::Solver;
+use ml_types::{TyId, TyNode, TyTable};
+use oxml_base::{Items, NoMemory};
+use std::alloc::Global;
+
+/// A solver before the first item, over the declared types.
+pub fn first_solver(alloc: Global, table: TyTable) -> Result<Solver, NoMemory>
+    requires { IsTable table.nodes }
+    ensures read { IfOk result (λ s. (decls : List DeclInfo) (declared : TyIdValue → Tree) → AreWithin (length table.nodes) decls → Reads table.nodes declared → IsRead (store s) decls (first_context decls declared)) }
+    ensures forgotten { IfOk result (λ s. HasNoIds (store s)) }
+{
+    let slots = slots_of(&table)?;
+    let mut solver = Solver::new(alloc, table, slots)?;
+    add_operations(&mut solver)?;
+    solver.next_item();
+    Ok(solver)
+}
+
+/// The type of a declaration without parameters.
+fn plain(solver: &mut Solver, decl: u32) -> Result<TyId, NoMemory>
+    ensures { IfOk result (λ id. AddsNode (store solver.old) (store solver.new) (Con decl []) id) }
+{
+    let args = Items::new(solver.alloc);
+    solver.add(TyNode::Con(decl, args))
+}
+
+/// Gives each operation its type, in the order of the operations. The result of `exit` and of
+/// `failwith` is a variable.
+fn add_operations(solver: &mut Solver) -> Result<(), NoMemory> {
+    let int = plain(solver, 0)?;
+    let char = plain(solver, 1)?;
+    let string = plain(solver, 2)?;
+    let unit = plain(solver, 4)?;
+    let any = solver.add(TyNode::Var(0))?;
+    add(solver, string, unit)?;
+    add(solver, int, unit)?;
+    add(solver, char, unit)?;
+    add(solver, string, unit)?;
+    add(solver, int, string)?;
+    add(solver, char, int)?;
+    add(solver, int, char)?;
+    add(solver, string, int)?;
+    let behind_text = solver.arrow(int, char)?;
+    add(solver, string, behind_text)?;
+    add(solver, int, any)?;
+    add(solver, string, any)
+}
+
+/// The next operation is a function from one type to another.
+fn add(solver: &mut Solver, from: TyId, to: TyId) -> Result<(), NoMemory>
+    ensures { OnOk result (AddsFunction (store solver.old) (store solver.new) from to) }
+{
+    let id = solver.arrow(from, to)?;
+    solver.add_operation(id)
+}

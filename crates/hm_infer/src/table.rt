@@ -1,0 +1,105 @@
+//! The types that were found, as a table.
+ghost use Rattle.std.specs.Prelude.{ℕ, IfOk, nat_eq, Option};
+ghost use Rattle.std.specs.HashMap.{get};
+ghost use Rattle.ml_types.specs.Types.{Tree};
+ghost use Rattle.hm_unify.specs.Solutions.{Stands};
+ghost use Rattle.hm_terms.specs.Stores.{store};
+ghost use Rattle.hm_terms.specs.Contexts.{ShowsAny};
+ghost use Rattle.hm_infer.specs.Tables.{AreSlotsBelow, IsScheme, Fills};
+
+use hm_terms::Solver;
+use ml_types::{Scheme, TyId, TyNode, TyTable};
+use ml_typing::Typed;
+use oxml_base::{Items, NoMemory};
+use std::collections::HashMap;
+
+/// The first slot above those of a table's arrows.
+pub fn slots_of(table: &TyTable) -> Result<u32, NoMemory>
+    ensures { IfOk result (AreSlotsBelow table.now.nodes) }
+{
+    let mut slots = 0u32;
+    for node in table.nodes.as_slice() {
+        if let TyNode::Arrow { slot, .. } = node {
+            let behind = slot.checked_add(1).ok_or(NoMemory)?;
+            slots = slots.max(behind);
+        }
+    }
+    Ok(slots)
+}
+
+/// The types that were found: those of the nodes below `count`, and the schemes of the names among them.
+pub fn typed(solver: Solver, count: u32, nodes: &HashMap<u32, TyId>) -> Result<Typed, NoMemory>
+    ensures { IfOk result (λ t. (noted named : ℕ → Option Tree) → ((n : ℕ) → ShowsAny (store solver) (get nat_eq nodes.now n) (noted n)) → ((b : ℕ) → ShowsAny (store solver) ((store solver).schemes b) (named b)) → Fills noted named count t) }
+{
+    let mut node = Items::new(solver.alloc);
+    let mut schemes = Items::new(solver.alloc);
+    for number in 0..count {
+        // Each number below the count is a node's.
+        let id = nodes.get(&number).copied().ok_or(NoMemory)?;
+        node.push(id)?;
+        if let Some(ty) = solver.scheme(number) {
+            let scheme = scheme_of(&solver, ty)?;
+            schemes.push(scheme)?;
+        }
+    }
+    let table = solver.table()?;
+    let slots = slots_of(&table)?;
+    Ok(Typed {
+        table,
+        node,
+        schemes,
+        slots,
+    })
+}
+
+/// The scheme of a type: every variable in it is generalised, in the order of first use. The type has
+/// at most 2,000 nodes.
+fn scheme_of(solver: &Solver, ty: TyId) -> Result<Scheme, NoMemory>
+    ensures { IfOk result (λ s. (w : Tree) → Stands (store solver.now).nodes (store solver.now).bound ty w → IsScheme ty w s) }
+{
+    let alloc = solver.alloc;
+    let mut vars = Items::new(alloc);
+    let mut seen: HashMap<u32, bool> = HashMap::new(alloc);
+    let mut stack = Vec::new(alloc);
+    stack.push(ty)?;
+    for _node in 0..2001 {
+        let Some(id) = stack.pop() else {
+            return Ok(Scheme { vars, ty });
+        };
+        let Some(node) = solver.head(id) else {
+            return Err(NoMemory)
+        };
+        match node {
+            TyNode::Var(number) => note(&mut vars, &mut seen, *number)?,
+            TyNode::Con(_, parts) => push_parts(&mut stack, parts.as_slice())?,
+            TyNode::Tuple(parts) => push_parts(&mut stack, parts.as_slice())?,
+            TyNode::Arrow { from, to, .. } => push_two(&mut stack, *from, *to)?,
+        }
+    }
+    Err(NoMemory)
+}
+
+/// A variable is among those that came up, once.
+fn note(vars: &mut Items<u32>, seen: &mut HashMap<u32, bool>, number: u32) -> Result<(), NoMemory> {
+    if seen.contains_key(&number) {
+        return Ok(());
+    }
+    seen.insert(number, true)?;
+    vars.push(number)?;
+    Ok(())
+}
+
+/// Pushes parts, the first on top.
+fn push_parts(stack: &mut Vec<TyId>, parts: &[TyId]) -> Result<(), NoMemory> {
+    for done in 0..parts.len() {
+        stack.push(parts[parts.len() - 1 - done])?;
+    }
+    Ok(())
+}
+
+/// Pushes the two parts of an arrow, the first on top.
+fn push_two(stack: &mut Vec<TyId>, from: TyId, to: TyId) -> Result<(), NoMemory> {
+    stack.push(to)?;
+    stack.push(from)?;
+    Ok(())
+}
