@@ -2,6 +2,7 @@ mod BuiltInLemmas
 mod CommandLemmas
 mod CompileLemmas
 mod DecidedLemmas
+mod DeclaredTypes
 mod FormLemmas
 mod FrontLemmas
 mod LineLemmas
