@@ -1,8 +1,9 @@
 -- How the parts of the command make its answers.
-use Rattle.std.proofs.Common.{◌≡◌, ℕ, ◌≤◌, ◌⊎◌, inl, inr, true, List, [], length, Some, refl, sym, ◌∙◌, append-nil, subst}
+use Rattle.std.proofs.Common.{◌≡◌, ℕ, ◌≤◌, ◌⊎◌, inl, inr, true, List, [], length, Option, Some, refl, sym, ◌∙◌, append-nil, subst}
 use Rattle.oxml_base.specs.declared.outside.ShelfCall.{ShelfCall}
 use Rattle.oxml_base.specs.declared.outside.ShelfCall.TheVariants.{Load, Save}
 use Rattle.oxml_base.specs.declared.refusal.Refusal.{Refusal}
+use Rattle.oxml_base.specs.declared.span.Span.{Span}
 use Rattle.oxml_base.specs.Outside.{ShelfView, SinkView, Rose, SameHeld, SameBut, SameFaults, ShelfFails, HoldsMore, GainsPart}
 use Rattle.oxml_base.specs.declared.refusal.Limit.{Limit}
 use Rattle.oxml_driver.specs.Build.{IsRefused, Passes, most_bytes}
@@ -102,9 +103,9 @@ module _ (file out_name : List ℕ) (shelf : ShelfView) (err err' : SinkView) (s
       no_memory is_6 (record { held = same_held shelf; out = refl; err = gains })
 
   -- the source, which is short, passes a limit
-  pub answers_passed : {passed : Limit} → length source ≤ most_bytes → Passes source passed → Said 5 status err err' (limit_line file passed) → AnswersBuild file out_name shelf shelf err err' status
-  answers_passed {passed} short passes =
-      answers_over file out_name shelf shelf err err' status (limit_line file passed) (λ words out words_are. of_source (record { has_source = record { words_are = words_are; told = told }; short = short; passes = passes })) (same_faults shelf) (same_held shelf)
+  pub answers_passed : {passed : Limit} {place : Option Span} → length source ≤ most_bytes → Passes source passed place → Said 5 status err err' (limit_line file source passed place) → AnswersBuild file out_name shelf shelf err err' status
+  answers_passed {passed} {place} short passes =
+      answers_over file out_name shelf shelf err err' status (limit_line file source passed place) (λ words out words_are. of_source (record { has_source = record { words_are = words_are; told = told }; short = short; passes = passes })) (same_faults shelf) (same_held shelf)
 
 -- ---- a load that succeeded changes nothing that is seen
 

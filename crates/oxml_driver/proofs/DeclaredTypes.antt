@@ -11,9 +11,9 @@ use Rattle.ml_types.specs.declared.declared.Decls.{Decls}
 use Rattle.ml_types.specs.declared.declared.DeclInfo.{DeclInfo}
 use Rattle.ml_types.specs.Types.{Head, ConHead, TupleHead, ArrowHead, head_of, parts_of, Tree, Leaf, Node, Trees, Cons, trees}
 use Rattle.ml_typing.specs.Typing.{Reads}
-use Rattle.ml_decls.specs.Answers.{IsChecked}
+use Rattle.ml_mentions.specs.Programs.{declarations}
 use Rattle.ml_decls.specs.Said.{SaidArg, SaidCon, SaidField, Said}
-use Rattle.ml_decls.specs.Tables.{tree_in, tree_of, trees_from, trees_of, PartsBefore, Each, ArgSays, ConSays, FieldSays, AliasSays, Says}
+use Rattle.ml_decls.specs.Tables.{tree_in, tree_of, trees_from, trees_of, PartsBefore, Each, ArgSays, ConSays, FieldSays, AliasSays, Says, Declares}
 use Rattle.ml_decls.proofs.Trees.{type_within}
 use Rattle.hm_unify.specs.States.{IsTable}
 use Rattle.hm_infer.specs.Starts.{AreWithin}
@@ -134,12 +134,12 @@ reads_types nodes before = record {
 
 -- ---- what inference asks for
 
-module _ (text : List ℕ) (s : Scoped) (decls : Decls) (table : TyTable) (checked : IsChecked text s decls table) where
+module _ (s : Scoped) (decls : Decls) (table : TyTable) (declares : Declares s.types (declarations s.program.items) decls.types table.nodes) where
   pub checked_table : IsTable table.nodes
-  checked_table = is_table table.nodes checked.declares.before
+  checked_table = is_table table.nodes declares.before
 
   pub checked_within : AreWithin (length table.nodes) decls.types
-  checked_within = are_within table.nodes decls.types _ checked.declares.say
+  checked_within = are_within table.nodes decls.types _ declares.say
 
   pub checked_reads : Reads table.nodes (tree_in (trees_of table.nodes))
-  checked_reads = reads_types table.nodes checked.declares.before
+  checked_reads = reads_types table.nodes declares.before

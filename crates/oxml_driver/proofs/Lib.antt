@@ -14,5 +14,8 @@ mod PrinterLoop
 mod PrinterMemory
 mod PrinterRun
 mod PrinterTexts
+mod SameContexts
 mod SameProgram
 mod TakenOnce
+mod TypeLemmas
+mod TypedOnce

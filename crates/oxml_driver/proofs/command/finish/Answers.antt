@@ -17,4 +17,4 @@ returns-in-Err-Refused g c =
 pub returns-in-Err-Limit : goal.returns-in-Err-Limit
 returns-in-Err-Limit g c =
     let why = rw c.in-Err-Limit.field-0-is at c.in-Err-Limit.ensures.err in
-    answers_passed _ _ _ _ _ _ c.args.source.now c.requires.told c.requires.short why.0 (c.say_made-in-Err-Limit.ensures _ c.limit_line.ensures)
+    answers_passed _ _ _ _ _ _ c.args.source.now c.requires.told c.requires.short why (c.say_made-in-Err-Limit.ensures _ c.limit_line.ensures)
