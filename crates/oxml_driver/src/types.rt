@@ -5,7 +5,7 @@ ghost use Rattle.oxml_driver.specs.Source.{program_text};
 ghost use Rattle.oxml_driver.specs.Types.{IsWellTyped};
 
 use crate::compile::CompileErr;
-use crate::declarations::read_declared;
+use crate::declarations::{Declared, read_declared};
 use hm_infer::{InferErr, infer};
 use ml_tree::Scoped;
 use std::alloc::Global;
@@ -19,9 +19,13 @@ pub fn read_typed(alloc: Global, source: &[u8], text: &[u8]) -> Result<Scoped, C
     ensures ok { IfOk result (IsWellTyped source.now) }
     ensures err { IfErr result (NotCompiled source.now) }
 {
-    let declared = read_declared(alloc, source, text)?;
-    match infer(alloc, &declared.scoped, &declared.decls, declared.table) {
-        Ok(_) => Ok(declared.scoped),
+    let Declared {
+        scoped,
+        decls,
+        table,
+    } = read_declared(alloc, source, text)?;
+    match infer(alloc, &scoped, &decls, table) {
+        Ok(_) => Ok(scoped),
         Err(InferErr::Refused(refusal)) => Err(CompileErr::Refused(refusal)),
         Err(InferErr::Limit(limit, span)) => Err(CompileErr::Limit(limit, Some(span))),
         Err(InferErr::NoMemory) => Err(CompileErr::NoMemory),
