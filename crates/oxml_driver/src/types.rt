@@ -12,7 +12,6 @@ use std::alloc::Global;
 
 /// The program of a source that has types, given the program's text; or the first rule that the source
 /// violates, or limit that it passes, in the order of the compiler.
-#[tactic(auto, using(crate::proofs::TypeLemmas::table_of, crate::proofs::TypeLemmas::types_within))]
 pub fn read_typed(alloc: Global, source: &[u8], text: &[u8]) -> Result<Scoped, CompileErr>
     requires short { length source.now ≤ most_bytes }
     requires text { text.now ≡ program_text source.now }
