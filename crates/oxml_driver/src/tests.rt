@@ -132,7 +132,7 @@ fn refused(rule: Rule, start: u32, end: u32) -> Option<CompileErr> {
 
 #[test]
 fn the_first_refusal_in_order_is_named(rt: HostRuntime) -> Result<(), Fail> {
-    let cases: [(&[u8], Rule, u32, u32); 44] = [
+    let cases: [(&[u8], Rule, u32, u32); 49] = [
         // lexical faults come before all others
         (b"let () = () (* cut", Rule::OpenComment, 12, 14),
         (
@@ -183,12 +183,30 @@ fn the_first_refusal_in_order_is_named(rt: HostRuntime) -> Result<(), Fail> {
             22,
             23,
         ),
-        (b"let () = print_string \"a\" \"b\"", Rule::TypesDiffer, 9, 21),
+        (
+            b"let () = print_string \"a\" \"b\"",
+            Rule::TypesDiffer,
+            9,
+            21,
+        ),
+        (b"let () = print_int \"one\"", Rule::TypesDiffer, 19, 24),
+        (
+            b"let a = print_string \"a\" \"b\"",
+            Rule::TypesDiffer,
+            8,
+            20,
+        ),
         (b"let () = print_string 'a'", Rule::TypesDiffer, 22, 25),
         (b"let () = print_string", Rule::TypesDiffer, 9, 21),
         // then comparisons
         (b"let a = (1, 2) = (3, 4)", Rule::Comparison, 8, 23),
         (b"let f x y = x < y", Rule::Comparison, 12, 17),
+        (
+            b"let least a b = if a < b then a else b",
+            Rule::Comparison,
+            19,
+            24,
+        ),
         (
             b"let f x y = x < y let () = print_int \"a\"",
             Rule::TypesDiffer,
@@ -202,6 +220,18 @@ fn the_first_refusal_in_order_is_named(rt: HostRuntime) -> Result<(), Fail> {
             27,
         ),
         // then the first item of the file that is not built
+        (
+            b"let least (a : int) b = if a < b then a else b",
+            Rule::LeftOut,
+            0,
+            46,
+        ),
+        (
+            b"type t = T of (t -> int) let f (T g) = g (T g)",
+            Rule::LeftOut,
+            0,
+            24,
+        ),
         (b"let () = print_int 1", Rule::LeftOut, 0, 20),
         (
             b"let () = print_string \"a\" let x = 1 let y = 2",
@@ -256,28 +286,22 @@ fn types_are_taken_up_to_the_limit_of_their_size(rt: HostRuntime) -> Result<(), 
     assert_eq!(rt; err, refused(Rule::LeftOut, 0, 16));
     // the tenth call, which is the outermost
     let mut over = doubled(alloc, 10)?;
-    let limit = Some(CompileErr::Limit(
-        Limit::TypeSize(2_001),
-        Some(Span { start: 34, end: 73 }),
-    ));
+    let limit = Some(CompileErr::Limit(Limit::TypeSize(2_001), Some(Span { start: 34, end: 73 })));
     assert_eq!(rt; compile(alloc, over.as_slice(), SMALL).err(), limit);
+    let named = b"let d x = (x, x)\nlet a = d (d (d (d (d (d (d (d (d (d 0)))))))))";
+    let limit = Some(CompileErr::Limit(Limit::TypeSize(2_001), Some(Span { start: 25, end: 64 })));
+    assert_eq!(rt; compile(alloc, named.as_slice(), SMALL).err(), limit);
     // the limit before comparisons, wherever they stand, and the earlier step first
     let mut first = b"let f x y = x < y\n".to_vec(alloc)?;
     first.extend_from_slice(over.as_slice())?;
-    let limit = Some(CompileErr::Limit(
-        Limit::TypeSize(2_001),
-        Some(Span { start: 52, end: 91 }),
-    ));
+    let limit = Some(CompileErr::Limit(Limit::TypeSize(2_001), Some(Span { start: 52, end: 91 })));
     assert_eq!(rt; compile(alloc, first.as_slice(), SMALL).err(), limit);
     let mut before = b"let f x = x x\n".to_vec(alloc)?;
     before.extend_from_slice(over.as_slice())?;
     let err = compile(alloc, before.as_slice(), SMALL).err();
     assert_eq!(rt; err, refused(Rule::InfiniteType, 12, 13));
     over.extend_from_slice(b" let f x = x x")?;
-    let limit = Some(CompileErr::Limit(
-        Limit::TypeSize(2_001),
-        Some(Span { start: 34, end: 73 }),
-    ));
+    let limit = Some(CompileErr::Limit(Limit::TypeSize(2_001), Some(Span { start: 34, end: 73 })));
     assert_eq!(rt; compile(alloc, over.as_slice(), SMALL).err(), limit);
     Ok(())
 }
