@@ -10,7 +10,9 @@ use Rattle.ml_typing.specs.declared.equation.Step.{Step}
 use Rattle.ml_typing.specs.Terms.{Context}
 use Rattle.ml_typing.specs.Typing.{Pair, pair_of, step_pairs, pairs}
 use Rattle.hm_unify.specs.Solutions.{Pairs, IsFirstFault, IsTooLarge}
-use Rattle.hm_unify.specs.States.{Equated}
+use Rattle.hm_unify.specs.States.{Equated, Refused}
+use Rattle.hm_unify.specs.declared.error.UnifyErr.{UnifyErr}
+use Rattle.hm_unify.specs.declared.error.UnifyErr.TheVariants.{Clash, Cycle, TooLarge}
 use Rattle.hm_terms.specs.Stores.{Store, state}
 use Rattle.hm_terms.specs.Contexts.{IsRead}
 use Rattle.hm_terms.proofs.Contexts.{read_grows}
@@ -50,6 +52,17 @@ step_too_large old mid new decls c before step ids slice read agrees lowers is l
     let l = lowers c read in
     (knowing_grown old mid new decls c before (step_pairs c step) ids read agrees l same,
      step_outgrows mid c before step ids (agrees_grows old mid before agrees read.ready l.grows) l.hold (subst (λ (ps : Pairs). IsTooLarge mid.nodes mid.bound ps) is large))
+
+-- ---- why pairs were refused
+
+pub clash_fault : (s : Store) (ids : Pairs) (e : UnifyErr) (k : ℕ) → e ≡ Clash k → Refused (state s) ids e → IsFirstFault s.nodes s.bound ids k
+clash_fault s ids e k is r = (subst (λ (f : UnifyErr). Refused (state s) ids f) is r).1
+
+pub cycle_fault : (s : Store) (ids : Pairs) (e : UnifyErr) (k : ℕ) → e ≡ Cycle k → Refused (state s) ids e → IsFirstFault s.nodes s.bound ids k
+cycle_fault s ids e k is r = (subst (λ (f : UnifyErr). Refused (state s) ids f) is r).1
+
+pub large_fault : (s : Store) (ids : Pairs) (e : UnifyErr) (n : ℕ) → e ≡ TooLarge n → Refused (state s) ids e → IsTooLarge s.nodes s.bound ids
+large_fault s ids e n is r = (subst (λ (f : UnifyErr). Refused (state s) ids f) is r).0
 
 -- ---- the steps in their order
 
