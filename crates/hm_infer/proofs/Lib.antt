@@ -1,3 +1,6 @@
+pub mod Stable
+pub mod Apart
+pub mod Readings
 pub mod Agreements
 pub mod Lowerings
 pub mod StepRuns

@@ -10,8 +10,8 @@ use Rattle.ml_typing.specs.declared.equation.Equation.{Equation}
 use Rattle.ml_typing.specs.Terms.{Context, Is, shape_of}
 use Rattle.ml_typing.specs.Typing.{Pair, pair_of}
 use Rattle.hm_unify.specs.Solutions.{Pairs}
-use Rattle.hm_terms.specs.Stores.{Store, Knows, IsReady, Grows}
-use Rattle.hm_terms.specs.Shapes.{Holds, Lowers}
+use Rattle.hm_terms.specs.Stores.{Store, Knows, Grows}
+use Rattle.hm_terms.specs.Shapes.{Lowers}
 use Rattle.hm_terms.specs.Contexts.{IsRead}
 use Rattle.hm_terms.proofs.Growth.{grows_same, grows_then}
 use Rattle.hm_terms.proofs.Holding.{grows_unknown, holds_grows, knows_lowers}
