@@ -59,7 +59,7 @@ push_next first old new decls c before es n e x ids more lt is k l one grown =
     let ps = before ++ map (pair_of c) (take n es) in
     let held : HoldPairs new (ps ++ pair_of c e ∷ []) (ids ++ x ∷ []) = hold_push new ps ids (pair_of c e) x (hold_pairs_grow old new (l.grows.ready k.ready) next.grows ps ids l.hold) next.hold in
     let same : before ++ map (pair_of c) (take (n + 1) es) ≡ ps ++ pair_of c e ∷ [] =
-        ap (λ (qs : List Pair). before ++ qs) (map_take (pair_of c) es n e (slice_get_read es (length es) n e refl lt is)) ∙ sym (append_assoc before (map (pair_of c) (take n es)) (pair_of c e ∷ [])) in
+    ap (λ (qs : List Pair). before ++ qs) (map_take (pair_of c) es n e (slice_get_read es (length es) n e refl lt is)) ∙ sym (append_assoc before (map (pair_of c) (take n es)) (pair_of c e ∷ [])) in
     record {
       grows = grows_then first old new l.grows next.grows;
       hold = subst (λ (is : Pairs). HoldPairs new (before ++ map (pair_of c) (take (n + 1) es)) is) (sym grown)

@@ -43,16 +43,18 @@ step_holds old mid new decls c before step ids slice k agrees lowers is e same n
 
 pub step_unsolved : (old mid new : Store) (decls : List DeclInfo) (c : Context) (before : List Pair) (step : Step) (ids slice : Pairs) (k : ℕ) (equations : List Equation) (span : Span) → IsRead old decls c → Agrees old before → LowersStep old mid decls step ids → slice ≡ ids → IsFirstFault mid.nodes mid.bound slice k → new ≡ mid → equations ≡ step.equations → (e : Equation) × (slice_get equations k ≡ Some e) × (span ≡ e.part) → Comes new decls c before step (Unsolved span)
 step_unsolved old mid new decls c before step ids slice k equations span read agrees lowers is fault same list part =
-    let l = lowers c read in
-    (knowing_grown old mid new decls c before (step_pairs c step) ids read agrees l same,
-     step_fails mid c before step ids k part.0 span (agrees_grows old mid before agrees read.ready l.grows) l.hold (subst (λ (ps : Pairs). IsFirstFault mid.nodes mid.bound ps k) is fault)
-         (ap (λ (es : List Equation). slice_get es k) (sym list) ∙ part.1) part.2)
+    let l = lowers c read in (
+      knowing_grown old mid new decls c before (step_pairs c step) ids read agrees l same,
+      step_fails mid c before step ids k part.0 span (agrees_grows old mid before agrees read.ready l.grows) l.hold (subst (λ (ps : Pairs). IsFirstFault mid.nodes mid.bound ps k) is fault)
+          (ap (λ (es : List Equation). slice_get es k) (sym list) ∙ part.1) part.2,
+    )
 
 pub step_too_large : (old mid new : Store) (decls : List DeclInfo) (c : Context) (before : List Pair) (step : Step) (ids slice : Pairs) → IsRead old decls c → Agrees old before → LowersStep old mid decls step ids → slice ≡ ids → IsTooLarge mid.nodes mid.bound slice → new ≡ mid → Comes new decls c before step Large
 step_too_large old mid new decls c before step ids slice read agrees lowers is large same =
-    let l = lowers c read in
-    (knowing_grown old mid new decls c before (step_pairs c step) ids read agrees l same,
-     step_outgrows mid c before step ids (agrees_grows old mid before agrees read.ready l.grows) l.hold (subst (λ (ps : Pairs). IsTooLarge mid.nodes mid.bound ps) is large))
+    let l = lowers c read in (
+      knowing_grown old mid new decls c before (step_pairs c step) ids read agrees l same,
+      step_outgrows mid c before step ids (agrees_grows old mid before agrees read.ready l.grows) l.hold (subst (λ (ps : Pairs). IsTooLarge mid.nodes mid.bound ps) is large),
+    )
 
 -- ---- why pairs were refused
 
