@@ -1,1 +1,7 @@
 pub mod Shown
+pub mod Stable
+pub mod Apart
+pub mod Readings
+pub mod Agreements
+pub mod Lowerings
+pub mod StepRuns
