@@ -1,0 +1,3 @@
+pub mod Larges
+pub mod Borrowed
+pub mod Narrowing
