@@ -1,3 +1,8 @@
+pub mod Stable
+pub mod Apart
+pub mod Readings
+pub mod Agreements
+pub mod Lowerings
+pub mod StepRuns
 pub mod Larges
-pub mod Borrowed
 pub mod Narrowing
