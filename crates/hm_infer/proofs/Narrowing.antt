@@ -1,33 +1,24 @@
 -- The search for the first step that makes a type too large.
-use Rattle.std.proofs.Common.{◌≡◌, ℕ, zero, suc, ◌+◌, ◌-◌, ◌<◌, ◌≤◌, ◌⊎◌, List, [], ◌∷◌, ◌++◌, length, take, Option, Some, None, refl, sym, ap, ◌∙◌, subst, inl, inr, ⊎_elim, arith, append_assoc}
+use Rattle.std.proofs.Common.{◌≡◌, ℕ, zero, suc, ◌+◌, ◌<◌, ◌≤◌, List, [], ◌∷◌, ◌++◌, length, take, Some, None, sym, subst, ⊎_elim, arith}
 use Rattle.std.specs.List.{slice_get}
 use Rattle.std.proofs.lemmas.Bool.{cases_lt}
-use Rattle.std.proofs.lemmas.List.{take_all, take-take, length-take-le, append-nil}
-use Rattle.ml_types.specs.declared.node.TyId.{TyId}
+use Rattle.std.proofs.lemmas.List.{take_all, take-take, length-take-le}
 use Rattle.ml_types.specs.declared.declared.DeclInfo.{DeclInfo}
-use Rattle.ml_types.specs.Types.{tree_size}
 use Rattle.ml_typing.specs.declared.equation.Step.{Step}
 use Rattle.ml_typing.specs.Terms.{Context}
 use Rattle.ml_typing.specs.Typing.{Assignment, Pair, Satisfies, pairs, step_pairs}
-use Rattle.ml_typing.specs.Refusals.{Fits, IsSmall, IsTypeOf}
+use Rattle.ml_typing.specs.Refusals.{Fits, IsSmall}
 use Rattle.hm_unify.specs.States.{IsSound}
 use Rattle.hm_terms.specs.Stores.{Store, Forgets}
 use Rattle.hm_terms.specs.Contexts.{IsRead}
 use Rattle.hm_infer.specs.declared.limit.Bracket.{Bracket}
 use Rattle.hm_infer.specs.Running.{Agrees, IsShown, HasNoIds, Knowing}
 use Rattle.hm_infer.specs.Sizes.{HasLarge, MakesLarge, Narrows, IsFirstLarge}
-use Rattle.hm_infer.proofs.Borrowed.{starts, shown, shown_reading, least, read_forgets}
+use Rattle.hm_infer.proofs.Readings.{read_forgets}
+use Rattle.hm_infer.proofs.StepRuns.{pairs_next}
+use Rattle.hm_infer.proofs.Shown.{starts, shown, shown_reading, least}
 
 -- ---- the first of some steps
-
-pairs_more : (c : Context) (steps : List Step) (n : ℕ) (step : Step) → slice_get steps n ≡ Some step → pairs c (take (suc n) steps) ≡ pairs c (take n steps) ++ step_pairs c step
-pairs_more c [] n step e = absurd (let q : None ≡ Some step = e in cc)
-pairs_more c (s ∷ steps) zero step e = let q : s ≡ step = cc in append-nil (step_pairs c s) ∙ ap (step_pairs c) q
-pairs_more c (s ∷ steps) (suc n) step e = ap (λ ps. step_pairs c s ++ ps) (pairs_more c steps n step e) ∙ sym (append_assoc (step_pairs c s) (pairs c (take n steps)) (step_pairs c step))
-
-satisfies_last : (a : Assignment) (ps qs : List Pair) → Satisfies a (ps ++ qs) → Satisfies a qs
-satisfies_last a [] qs h = h
-satisfies_last a (p ∷ ps) qs h = satisfies_last a ps qs h.1
 
 satisfies_with : (a : Assignment) (ps qs rs : List Pair) → Satisfies a (ps ++ qs) → (Satisfies a qs → Satisfies a rs) → Satisfies a (ps ++ rs)
 satisfies_with a [] qs rs h f = f h
@@ -74,12 +65,9 @@ Knows old new decls c step = (before : List Pair) → IsRead old decls c → Agr
 
 pub narrowing_more : (old new : Store) (decls : List DeclInfo) (c : Context) (steps : List Step) (small number : ℕ) (step : Step) → slice_get steps number ≡ Some step → Knows old new decls c step → Narrowing old decls c steps small number → Narrowing new decls c steps small (number + 1)
 narrowing_more old new decls c steps small number step at knows n = record {
-  knows = subst (λ (ps : List Pair). Knowing new decls c ps) (sym more) (knows (pairs c (take number steps)) n.knows.read n.knows.agrees);
+  knows = subst (λ (ps : List Pair). Knowing new decls c ps) (sym (pairs_next c steps number step at)) (knows (pairs c (take number steps)) n.knows.read n.knows.agrees);
   fits = n.fits;
 }
-  where
-    more : pairs c (take (number + 1) steps) ≡ pairs c (take number steps) ++ step_pairs c step
-    more = let e : number + 1 ≡ suc number = omega arith in rw e (pairs_more c steps number step at)
 
 -- the types that are shown satisfy the equations of the steps
 shown_satisfies : (s : Store) (decls : List DeclInfo) (c : Context) (ps : List Pair) → Knowing s decls c ps → IsSound s.nodes s.bound → (a : Assignment) × IsShown s a × Satisfies a ps
