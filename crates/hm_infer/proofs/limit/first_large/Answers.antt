@@ -26,6 +26,7 @@ loop-run-preserved c =
 pub returns-then-high-low : goal.returns-then-high-low
 returns-then-high-low c =
     let near : c.loop-run.high ≤ c.loop-run.low + 1 = elim c.then-high-low.branch [
-        then-high-low-via-then-high-low w ↦ omega (arith, w.if-high-low.true)
-        | then-high-low-via-else-high-low+then-high-low-eq1 w ↦ omega (arith, w.if-high-low-eq1.true) ] in
+      | then-high-low-via-then-high-low w ↦ omega (arith, w.if-high-low.true)
+      | then-high-low-via-else-high-low+then-high-low-eq1 w ↦ omega (arith, w.if-high-low-eq1.true)
+    ] in
     λ e read makes. first_found (store c.loop-run.solver) c.args.d.now.types e c.args.steps.now c.loop-run.low c.loop-run.high c.loop-run.invariant.within near (c.loop-run.invariant.searching e read makes)

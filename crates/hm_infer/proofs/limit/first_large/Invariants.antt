@@ -9,5 +9,5 @@ use Rattle.hm_infer.proofs.limit.first_large.Given as goal
 abbrev pub invariant-loop-run : goal.invariant-loop-run
 invariant-loop-run l = record {
   within : l.high ≤ length l.steps;
-  searching : (c : Context) → IsRead (store l.initial.solver) l.d.types c → MakesLarge c l.steps → Searching (store l.solver) l.d.types c l.steps l.low l.high
+  searching : (c : Context) → IsRead (store l.initial.solver) l.d.types c → MakesLarge c l.steps → Searching (store l.solver) l.d.types c l.steps l.low l.high;
 }

@@ -1,4 +1,4 @@
-use Rattle.std.proofs.Common.{◌<◌, length, take}
+use Rattle.std.proofs.Common.{take}
 use Rattle.ml_typing.specs.Terms.{Context}
 use Rattle.ml_typing.specs.Refusals.{Fits}
 use Rattle.hm_terms.specs.Stores.{store}

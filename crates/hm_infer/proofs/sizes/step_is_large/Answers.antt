@@ -17,9 +17,10 @@ returns-then-size-gt2000 c = λ a shown.
 pub returns : goal.returns
 returns c =
     let node : (a : Assignment) → IsShown (store c.args.solver.now) a → SmallNode c.args.step.now.node a = λ a shown. elim c.match-step.branch [
-        in-Some+in_ok-size+else-size-gt2000 w ↦ small_node c.args.step.now.node a w.in-Some.node w.in_ok-size.size w.in-Some.is (w.in_ok-size.ensures.size a shown) w.if-size-gt2000.false
-        | in_default w ↦ no_node c.args.step.now.node a w.in_default.is ] in
+      | in-Some+in_ok-size+else-size-gt2000 w ↦ small_node c.args.step.now.node a w.in-Some.node w.in_ok-size.size w.in-Some.is (w.in_ok-size.ensures.size a shown) w.if-size-gt2000.false
+      | in_default w ↦ no_node c.args.step.now.node a w.in_default.is
+    ] in
     IfOk-weaker c.any_left_large.result _ _
     (λ large k a shown. step_by (store c.args.solver.now) c.args.step.now a large (node a shown)
-        (subst (λ (es : List Equation). MatchBool large (HasLargeLeft (store c.args.solver.now) es a) (AreSmallLefts es a)) c.as_slice.ensures (k a shown)))
+    (subst (λ (es : List Equation). MatchBool large (HasLargeLeft (store c.args.solver.now) es a) (AreSmallLefts es a)) c.as_slice.ensures (k a shown)))
     c.any_left_large.ensures
