@@ -5,3 +5,6 @@ pub mod Readings
 pub mod Agreements
 pub mod Lowerings
 pub mod StepRuns
+pub mod Larges
+pub mod Narrowing
+pub mod Keeping
