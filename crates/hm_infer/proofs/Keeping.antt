@@ -32,3 +32,6 @@ keeps_holds old mid new decls c step ids slice k lowers is e same names =
 pub keeps_refused : (old mid new : Store) (decls : List DeclInfo) (c : Context) (step : Step) (ids : Pairs) → IsRead old decls c → LowersStep old mid decls step ids → new ≡ mid → Keeps old new
 keeps_refused old mid new decls c step ids k lowers same =
     subst (λ (s : Store). Keeps old s) (sym same) (keeps_grown old mid k.ready (lowers c k).grows)
+
+pub keeps_same : (s : Store) → Keeps s s
+keeps_same s x w k = k
