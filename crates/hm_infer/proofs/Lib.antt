@@ -8,3 +8,4 @@ pub mod StepRuns
 pub mod Larges
 pub mod Narrowing
 pub mod Keeping
+pub mod Behind
