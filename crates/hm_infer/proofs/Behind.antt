@@ -31,7 +31,6 @@ use Rattle.hm_infer.proofs.Shown.{shown, shown_grows, principal}
 
 -- ---- lists of items and of their types
 
-AreTyped : List Assignment → List ItemSteps → Type 0
 
 pub typed_length : (c : Context) (types : List Assignment) (items : List ItemSteps) → IsTyped c types items → length types ≡ length items
 typed_length c [] [] h = refl

@@ -4,7 +4,7 @@ ghost use Rattle.ml_typing.specs.Terms.{Context};
 ghost use Rattle.ml_typing.specs.Typing.{Assignment, ItemSteps, behind_all, steps_of_item};
 ghost use Rattle.hm_terms.specs.Stores.{store};
 ghost use Rattle.hm_terms.specs.Contexts.{IsRead};
-ghost use Rattle.hm_infer.specs.Running.{HasNoIds};
+ghost use Rattle.hm_infer.specs.Running.{HasNoIds, Keeps};
 ghost use Rattle.hm_infer.specs.Answers.{Checked, IsItemFault, IsLimitAt, IsRefusedAt, Behind, SomeBehind};
 ghost use Rattle.hm_infer.specs.Closing.{Leaves};
 
@@ -36,6 +36,7 @@ pub struct Found {
 /// Runs the steps of an item, each of which must have a solution and make no type too large.
 fn check_item(solver: &mut Solver, d: &Decls, steps: &[Step]) -> Result<(), InferErr>
     ensures ok { OnOk result ((c : Context) → IsRead (store solver.old) d.now.types c → HasNoIds (store solver.old) → Checked (store solver.new) d.now.types c steps.now) }
+    ensures keeps { OnOk result ((c : Context) → IsRead (store solver.old) d.now.types c → HasNoIds (store solver.old) → Keeps (store solver.old) (store solver.new)) }
     ensures err { IfErr result (λ e. (c : Context) → IsRead (store solver.old) d.now.types c → HasNoIds (store solver.old) → IsItemFault c steps.now e) }
 {
     solver.sound();
@@ -102,7 +103,9 @@ pub fn infer_item(
     let steps = item_steps(solver.alloc, s, item)?;
     let binders = item_binders(solver.alloc, item)?;
     check_item(solver, d, steps.as_slice())?;
+    solver.sound();
     leave_item(solver, steps.as_slice(), binders.as_slice(), found)?;
+    solver.sound();
     Ok(())
 }
 
