@@ -22,11 +22,12 @@ use Rattle.hm_unify.proofs.Ends.{link-number}
 use Rattle.hm_terms.specs.Stores.{Store, IsClosed, IsReady, Grows, Forgets}
 use Rattle.hm_terms.specs.Contexts.{Shows, ShowsAny, op_place, IsRead}
 use Rattle.hm_terms.proofs.Growth.{longer, stands_grow}
+use Rattle.hm_infer.specs.declared.error.InferErr.{InferErr}
 use Rattle.hm_infer.specs.declared.items.Found.{Found}
-use Rattle.hm_infer.specs.Running.{IsShown, Keeps, Agrees}
+use Rattle.hm_infer.specs.Running.{HasNoIds, IsShown, Keeps}
 use Rattle.hm_infer.specs.Compared.{FirstBad, IsBadAmong}
 use Rattle.hm_infer.specs.Closing.{Closes, Notes, Compared, Leaves, has_node}
-use Rattle.hm_infer.specs.Answers.{Checked, noted, AreCompared, Behind, SomeBehind}
+use Rattle.hm_infer.specs.Answers.{Checked, IsItemFault, noted, AreCompared, Behind, SomeBehind}
 use Rattle.hm_infer.proofs.Shown.{shown, shown_grows, principal}
 
 -- ---- lists of items and of their types
@@ -299,3 +300,15 @@ behind_next old mid new decls c items types item found more sound sound' k keeps
 
     kept : Keeps old new
     kept x w h = l.keeps x w (keeps x w h)
+
+-- the steps and names of an item as they were given
+pub behind_item : (old mid new : Store) (decls : List DeclInfo) (item : ItemSteps) (steps others : List Step) (binders : List ℕ) (found more : Found) → steps ≡ item.steps → others ≡ item.steps → binders ≡ item.binders → IsSound mid.nodes mid.bound → IsSound new.nodes new.bound → ((e : Context) → IsRead old decls e → HasNoIds old → Checked mid decls e steps) → ((e : Context) → IsRead old decls e → HasNoIds old → Keeps old mid) → Leaves mid new others binders found more → (c : Context) (items : List ItemSteps) (types : List Assignment) → Behind old decls c items types found → SomeBehind new decls c (items ++ item ∷ []) more
+behind_item old mid new decls item steps others binders found more is is' names sound sound' checked keeps leaves c items types k =
+    let e : Context = behind_all c types items in
+    behind_next old mid new decls c items types item found more sound sound' k (keeps e k.read k.forgotten)
+    (subst (λ (ss : List Step). Checked mid decls e ss) is (checked e k.read k.forgotten))
+    (subst (λ (ss : List Step). Leaves mid new ss item.binders found more) is' (subst (λ (bs : List ℕ). Leaves mid new others bs found more) names leaves))
+
+pub fault_item : (old : Store) (decls : List DeclInfo) (item : ItemSteps) (steps : List Step) (found : Found) (e : InferErr) → steps ≡ item.steps → ((b : Context) → IsRead old decls b → HasNoIds old → IsItemFault b steps e) → (c : Context) (items : List ItemSteps) (types : List Assignment) → Behind old decls c items types found → IsItemFault (behind_all c types items) item.steps e
+fault_item old decls item steps found e is fault c items types k =
+    subst (λ (ss : List Step). IsItemFault (behind_all c types items) ss e) is (fault (behind_all c types items) k.read k.forgotten)
