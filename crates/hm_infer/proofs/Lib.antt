@@ -9,3 +9,4 @@ pub mod Larges
 pub mod Narrowing
 pub mod Keeping
 pub mod Behind
+pub mod Comparing

@@ -5,7 +5,7 @@ ghost use Rattle.ml_typing.specs.Typing.{Assignment};
 ghost use Rattle.ml_typing.specs.Refusals.{CanCompare};
 ghost use Rattle.hm_terms.specs.Stores.{store};
 ghost use Rattle.hm_infer.specs.Running.{IsShown};
-ghost use Rattle.hm_infer.specs.Compared.{FirstBad};
+ghost use Rattle.hm_infer.specs.Compared.{FirstBad, IsPlain};
 
 use hm_terms::Solver;
 use ml_types::TyNode;
@@ -19,8 +19,20 @@ fn can_compare(solver: &Solver, unknown: Unknown) -> Result<bool, NoMemory>
     // The operands of a step that was run have a type.
     let id = solver.known(unknown).ok_or(NoMemory)?;
     match solver.head(id) {
-        Some(TyNode::Con(number, args)) => Ok(*number < 5 && args.is_empty()),
-        _ => Ok(false),
+        Some(node) => Ok(is_plain(node)),
+        None => Ok(false),
+    }
+}
+
+/// Whether a node is one of the first five declarations without arguments.
+fn is_plain(node: &TyNode) -> bool
+    ensures { MatchBool result (IsPlain node.now) (IsPlain node.now → ⊥) }
+{
+    match node {
+        TyNode::Var(_) => false,
+        TyNode::Con(number, args) => *number < 5 && args.is_empty(),
+        TyNode::Tuple(_) => false,
+        TyNode::Arrow { .. } => false,
     }
 }
 
