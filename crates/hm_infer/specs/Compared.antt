@@ -15,6 +15,13 @@ IsPlain (Con number args) = (number < 5) × (args ≡ [])
 IsPlain (Tuple parts) = ⊥
 IsPlain (Arrow slot from to) = ⊥
 
+-- the operands of a step, where it compares any, have a type that can be compared, or one that can not
+abbrev pub IsGoodAt : Step → Assignment → Type 0
+IsGoodAt step a = (v : Unknown) → step.compared ≡ Some v → CanCompare (a v)
+
+abbrev pub IsBadAt : Step → Assignment → Type 0
+IsBadAt step a = (v : Unknown) × (step.compared ≡ Some v) × (CanCompare (a v) → ⊥)
+
 pub record IsBadAmong (steps : List Step) (a : Assignment) (span : Span) : Type 0 where
   pub k : ℕ
   pub step : Step

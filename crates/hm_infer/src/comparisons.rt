@@ -5,7 +5,7 @@ ghost use Rattle.ml_typing.specs.Typing.{Assignment};
 ghost use Rattle.ml_typing.specs.Refusals.{CanCompare};
 ghost use Rattle.hm_terms.specs.Stores.{store};
 ghost use Rattle.hm_infer.specs.Running.{IsShown};
-ghost use Rattle.hm_infer.specs.Compared.{FirstBad, IsPlain};
+ghost use Rattle.hm_infer.specs.Compared.{FirstBad, IsPlain, IsGoodAt, IsBadAt};
 
 use hm_terms::Solver;
 use ml_types::TyNode;
@@ -36,15 +36,23 @@ fn is_plain(node: &TyNode) -> bool
     }
 }
 
+/// Whether a step compares nothing, or values that can be compared.
+fn is_good(solver: &Solver, step: &Step) -> Result<bool, NoMemory>
+    ensures { IfOk result (λ good. (a : Assignment) → IsShown (store solver.now) a → MatchBool good (IsGoodAt step.now a) (IsBadAt step.now a)) }
+{
+    match step.compared {
+        Some(operands) => can_compare(solver, operands),
+        None => Ok(true),
+    }
+}
+
 /// The span of the first comparison whose operands have another type.
 pub fn bad_comparison(solver: &Solver, steps: &[Step]) -> Result<Option<Span>, NoMemory>
     ensures { IfOk result (λ bad. (a : Assignment) → IsShown (store solver.now) a → FirstBad steps.now a bad) }
 {
     for step in steps {
-        if let Some(operands) = step.compared {
-            if !can_compare(solver, operands)? {
-                return Ok(Some(step.span));
-            }
+        if !is_good(solver, step)? {
+            return Ok(Some(step.span));
         }
     }
     Ok(None)
