@@ -10,3 +10,4 @@ pub mod Narrowing
 pub mod Keeping
 pub mod Behind
 pub mod Comparing
+pub mod Leaving
