@@ -230,30 +230,3 @@ notes_next s ss n step f g h at k one = rw add-one (record {
     theirs i e (inl p) = one.theirs i (ap (λ (b : Bool). cond b true false) p)
     theirs i (inl e) (inr p) = absurd (let q : true ≡ false = sym e ∙ p in cc)
     theirs i (inr e) (inr p) = let w = k.theirs i e in (w.0, w.1, one.others i (ap (λ (b : Bool). cond b true false) p) ∙ w.2)
-
--- the node of one step
-pub notes_node : (s : Store) (step : Step) (m : ℕ) (id : TyId) (f g : ℕ → Option TyId) → step.node ≡ Some m → s.ids (Node m) ≡ Some id → ((k : ℕ) → g k ≡ cond (nat_eq m k) (Some id) (f k)) → Notes s (step ∷ []) f g
-notes_node s step m id f g is known update = record {
-  theirs = λ k h. theirs k (eqb_tells m k) (sym (has k) ∙ h);
-  others = λ k h. others k (eqb_tells m k) (sym (has k) ∙ h);
-}
-  where
-    same : (b : Bool) → cond b true false ≡ b
-    same true = refl
-    same false = refl
-
-    has : (k : ℕ) → has_node (step ∷ []) k ≡ nat_eq m k
-    has k = ap (λ (o : Option ℕ). cond (is_node o k) true false) is ∙ same (nat_eq m k)
-
-    theirs : (k : ℕ) → ((nat_eq m k ≡ true) × (m ≡ k)) ⊎ ((nat_eq m k ≡ false) × (m ≡ k → ⊥)) → nat_eq m k ≡ true → (x : TyId) × (s.ids (Node k) ≡ Some x) × (g k ≡ Some x)
-    theirs k (inl e) h = (id, ap (λ (i : ℕ). s.ids (Node i)) (sym e.1) ∙ known, update k ∙ ap (λ (b : Bool). cond b (Some id) (f k)) h)
-    theirs k (inr d) h = absurd (let q : true ≡ false = sym h ∙ d.0 in cc)
-
-    others : (k : ℕ) → ((nat_eq m k ≡ true) × (m ≡ k)) ⊎ ((nat_eq m k ≡ false) × (m ≡ k → ⊥)) → nat_eq m k ≡ false → g k ≡ f k
-    others k d h = update k ∙ ap (λ (b : Bool). cond b (Some id) (f k)) h
-
-pub notes_nothing : (s : Store) (step : Step) (f : ℕ → Option TyId) → step.node ≡ None → Notes s (step ∷ []) f f
-notes_nothing s step f is = record {
-  theirs = λ k h. absurd (let q : false ≡ true = sym (ap (λ (o : Option ℕ). cond (is_node o k) true false) is) ∙ h in cc);
-  others = λ k h. refl;
-}
