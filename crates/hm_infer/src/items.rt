@@ -1,12 +1,12 @@
 //! One item: its steps, its comparisons, and what it leaves for the items behind it.
-ghost use Rattle.std.specs.Prelude.{◌++◌, ◌∷◌, List, [], OnOk, IfErr};
+ghost use Rattle.std.specs.Prelude.{◌++◌, ◌∷◌, List, [], OnOk, IfOk, IfErr};
 ghost use Rattle.ml_typing.specs.Terms.{Context};
 ghost use Rattle.ml_typing.specs.Typing.{Assignment, ItemSteps, behind_all, steps_of_item};
 ghost use Rattle.hm_terms.specs.Stores.{store};
 ghost use Rattle.hm_terms.specs.Contexts.{IsRead};
 ghost use Rattle.hm_infer.specs.Running.{HasNoIds, Keeps};
 ghost use Rattle.hm_infer.specs.Answers.{Checked, IsItemFault, IsLimitAt, IsRefusedAt, Behind, SomeBehind};
-ghost use Rattle.hm_infer.specs.Closing.{Leaves};
+ghost use Rattle.hm_infer.specs.Closing.{Compared, Leaves};
 
 use crate::comparisons::bad_comparison;
 use crate::error::InferErr;
@@ -118,13 +118,23 @@ fn leave_item(
 ) -> Result<(), NoMemory>
     ensures { OnOk result (Leaves (store solver.old) (store solver.new) steps.now binders.now found.old found.new) }
 {
-    solver.sound();
-    if found.bad.is_none() {
-        found.bad = bad_comparison(solver, steps)?;
-    }
+    found.bad = first_bad(solver, steps, found.bad)?;
     note_nodes(solver, steps, &mut found.nodes)?;
     close_item(solver, binders)?;
-    solver.sound();
     solver.next_item();
     Ok(())
+}
+
+/// The first bad comparison of the items before, or else of these steps.
+fn first_bad(
+    solver: &Solver,
+    steps: &[Step],
+    before: Option<Span>,
+) -> Result<Option<Span>, NoMemory>
+    ensures { IfOk result (Compared (store solver.now) steps.now before) }
+{
+    match before {
+        Some(span) => Ok(Some(span)),
+        None => bad_comparison(solver, steps),
+    }
 }
