@@ -102,7 +102,9 @@ pub fn infer_item(
 {
     let steps = item_steps(solver.alloc, s, item)?;
     let binders = item_binders(solver.alloc, item)?;
-    check_item(solver, d, steps.as_slice())?;
+    if let Err(error) = check_item(solver, d, steps.as_slice()) {
+        return Err(error);
+    }
     solver.sound();
     leave_item(solver, steps.as_slice(), binders.as_slice(), found)?;
     solver.sound();
