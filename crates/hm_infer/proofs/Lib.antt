@@ -1,0 +1,4 @@
+mod Lists
+mod Tabling
+mod Faults
+mod Programs

@@ -1,10 +1,10 @@
 //! One item: its steps, its comparisons, and what it leaves for the items behind it.
-ghost use Rattle.std.specs.Prelude.{◌++◌, ◌∷◌, List, [], OnOk, IfErr};
+ghost use Rattle.std.specs.Prelude.{◌≡◌, ◌++◌, ◌∷◌, List, [], take, OnOk, IfOk, IfErr};
 ghost use Rattle.ml_typing.specs.Terms.{Context};
 ghost use Rattle.ml_typing.specs.Typing.{Assignment, ItemSteps, behind_all, steps_of_item};
 ghost use Rattle.hm_terms.specs.Stores.{store};
 ghost use Rattle.hm_terms.specs.Contexts.{IsRead};
-ghost use Rattle.hm_infer.specs.Running.{HasNoIds};
+ghost use Rattle.hm_infer.specs.Running.{HasNoIds, Runs};
 ghost use Rattle.hm_infer.specs.Answers.{Checked, IsItemFault, IsLimitAt, IsRefusedAt, Behind, SomeBehind};
 ghost use Rattle.hm_infer.specs.Closing.{Leaves};
 
@@ -12,7 +12,7 @@ use crate::comparisons::bad_comparison;
 use crate::error::InferErr;
 use crate::limit::first_large;
 use crate::rules::rule_of;
-use crate::run::{Outcome, run_steps};
+use crate::run::{Outcome, Progress, run_steps};
 use crate::schemes::{close_item, note_nodes};
 use crate::sizes::any_large;
 use hm_steps::{item_binders, item_steps};
@@ -40,10 +40,21 @@ fn check_item(solver: &mut Solver, d: &Decls, steps: &[Step]) -> Result<(), Infe
 {
     solver.sound();
     let progress = run_steps(solver, d, steps)?;
-    let Some(done) = steps.get(..progress.done) else {
-        return Err(InferErr::NoMemory)
-    };
+    judge(solver, d, steps, progress)
+}
+
+/// What became of the steps of an item, of which so many hold.
+fn judge(
+    solver: &mut Solver,
+    d: &Decls,
+    steps: &[Step],
+    progress: Progress,
+) -> Result<(), InferErr>
+    ensures ok { OnOk result ((c : Context) → Runs (store solver.old) d.now.types c steps.now progress → Checked (store solver.new) d.now.types c steps.now) }
+    ensures err { IfErr result (λ e. (c : Context) → Runs (store solver.old) d.now.types c steps.now progress → IsItemFault c steps.now e) }
+{
     solver.sound();
+    let done = front(steps, progress.done)?;
     let large = any_large(solver, done)?;
     if large {
         let place = first_large(solver, d, done)?;
@@ -54,6 +65,13 @@ fn check_item(solver: &mut Solver, d: &Decls, steps: &[Step]) -> Result<(), Infe
         Outcome::Large => too_large(steps, progress.done),
         Outcome::Unsolved(span) => unsolved(solver, d, steps, progress.done, span),
     }
+}
+
+/// The first steps, so many.
+fn front(steps: &[Step], count: usize) -> Result<&[Step], NoMemory>
+    ensures { IfOk result (λ f. f.now ≡ take count steps.now) }
+{
+    steps.get(..count).ok_or(NoMemory)
 }
 
 /// The limit at the step of this place.
@@ -81,10 +99,8 @@ fn unsolved(
     let Some(behind) = place.checked_add(1) else {
         return Err(InferErr::NoMemory)
     };
-    let Some(front) = steps.get(..behind) else {
-        return Err(InferErr::NoMemory)
-    };
-    let rule = rule_of(solver, d, front)?;
+    let behind_steps = front(steps, behind)?;
+    let rule = rule_of(solver, d, behind_steps)?;
     Err(InferErr::Refused(Refusal { rule, span }))
 }
 

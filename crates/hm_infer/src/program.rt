@@ -39,7 +39,9 @@ pub fn infer(alloc: Global, s: &Scoped, d: &Decls, t: TyTable) -> Result<Typed, 
         bad: None,
     };
     for number in 0..items.len() {
-        infer_item(&mut solver, s, d, &items[number], &mut found)?;
+        if let Err(error) = infer_item(&mut solver, s, d, &items[number], &mut found) {
+            return Err(error);
+        }
     }
     match found.bad {
         Some(span) => Err(InferErr::Refused(Refusal {

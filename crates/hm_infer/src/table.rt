@@ -1,16 +1,17 @@
 //! The types that were found, as a table.
-ghost use Rattle.std.specs.Prelude.{ℕ, IfOk, nat_eq, Option};
+ghost use Rattle.std.specs.Prelude.{ℕ, ◌+◌, IfOk, OnOk, nat_eq, Option};
 ghost use Rattle.std.specs.HashMap.{get};
 ghost use Rattle.ml_types.specs.Types.{Tree};
 ghost use Rattle.hm_unify.specs.Solutions.{Stands};
 ghost use Rattle.hm_terms.specs.Stores.{store};
 ghost use Rattle.hm_terms.specs.Contexts.{ShowsAny};
-ghost use Rattle.hm_infer.specs.Tables.{AreSlotsBelow, IsScheme, Fills};
+ghost use Rattle.hm_infer.specs.Tables.{AreNoted, AreSlotsBelow, Collects, IsScheme, Fills};
 
 use hm_terms::Solver;
 use ml_types::{Scheme, TyId, TyNode, TyTable};
 use ml_typing::Typed;
 use oxml_base::{Items, NoMemory};
+use std::alloc::Global;
 use std::collections::HashMap;
 
 /// The first slot above those of a table's arrows.
@@ -28,20 +29,12 @@ pub fn slots_of(table: &TyTable) -> Result<u32, NoMemory>
 }
 
 /// The types that were found: those of the nodes below `count`, and the schemes of the names among them.
+#[tactic(auto, using(crate::proofs::Tabling::fills))]
 pub fn typed(solver: Solver, count: u32, nodes: &HashMap<u32, TyId>) -> Result<Typed, NoMemory>
     ensures { IfOk result (λ t. (noted named : ℕ → Option Tree) → ((n : ℕ) → ShowsAny (store solver) (get nat_eq nodes.now n) (noted n)) → ((b : ℕ) → ShowsAny (store solver) ((store solver).schemes b) (named b)) → Fills noted named count t) }
 {
-    let mut node = Items::new(solver.alloc);
-    let mut schemes = Items::new(solver.alloc);
-    for number in 0..count {
-        // Each number below the count is a node's.
-        let id = nodes.get(&number).copied().ok_or(NoMemory)?;
-        node.push(id)?;
-        if let Some(ty) = solver.scheme(number) {
-            let scheme = scheme_of(&solver, ty)?;
-            schemes.push(scheme)?;
-        }
-    }
+    let node = nodes_of(solver.alloc, count, nodes)?;
+    let schemes = schemes_of(&solver, count)?;
     let table = solver.table()?;
     let slots = slots_of(&table)?;
     Ok(Typed {
@@ -50,6 +43,52 @@ pub fn typed(solver: Solver, count: u32, nodes: &HashMap<u32, TyId>) -> Result<T
         schemes,
         slots,
     })
+}
+
+/// The types of all nodes below a number.
+#[tactic(auto, using(crate::proofs::Tabling::noted_next))]
+fn nodes_of(
+    alloc: Global,
+    count: u32,
+    nodes: &HashMap<u32, TyId>,
+) -> Result<Items<TyId>, NoMemory>
+    ensures { IfOk result (AreNoted (get nat_eq nodes.now) count) }
+{
+    let mut ids = Items::new(alloc);
+    for number in 0..count {
+        // Each number below the count is a node's.
+        let id = nodes.get(&number).copied().ok_or(NoMemory)?;
+        ids.push(id)?;
+    }
+    Ok(ids)
+}
+
+/// The schemes of all names below a number.
+fn schemes_of(solver: &Solver, count: u32) -> Result<Items<Scheme>, NoMemory>
+    ensures { IfOk result (λ ss. (named : ℕ → Option Tree) → ((b : ℕ) → ShowsAny (store solver.now) ((store solver.now).schemes b) (named b)) → Collects (store solver.now).nodes (store solver.now).bound named count ss) }
+{
+    let mut schemes = Items::new(solver.alloc);
+    for number in 0..count {
+        push_scheme(solver, number, &mut schemes)?;
+    }
+    Ok(schemes)
+}
+
+/// Appends the scheme of the name of this number, where there is one.
+#[tactic(auto, using(crate::proofs::Tabling::skips, crate::proofs::Tabling::pushes))]
+fn push_scheme(
+    solver: &Solver,
+    number: u32,
+    schemes: &mut Items<Scheme>,
+) -> Result<(), NoMemory>
+    ensures { OnOk result ((named : ℕ → Option Tree) → ((b : ℕ) → ShowsAny (store solver.now) ((store solver.now).schemes b) (named b)) → Collects (store solver.now).nodes (store solver.now).bound named number schemes.old → Collects (store solver.now).nodes (store solver.now).bound named (number + 1) schemes.new) }
+{
+    let Some(ty) = solver.scheme(number) else {
+        return Ok(())
+    };
+    let scheme = scheme_of(solver, ty)?;
+    schemes.push(scheme)?;
+    Ok(())
 }
 
 /// The scheme of a type: every variable in it is generalised, in the order of first use. The type has
