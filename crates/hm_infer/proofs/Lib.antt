@@ -2,3 +2,9 @@ mod Lists
 mod Tabling
 mod Faults
 mod Programs
+pub mod Stable
+pub mod Apart
+pub mod Readings
+pub mod Agreements
+pub mod Lowerings
+pub mod StepRuns

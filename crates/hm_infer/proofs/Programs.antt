@@ -80,3 +80,7 @@ typed_as s d c items found count t bad (types, k) fills = record {
   compare = subst (AreCompared items types) bad k.compared;
   fills = fills (noted types items) (behind_all c types items).scheme k.nodes k.read.schemes;
 }
+
+-- one item more
+pub next_behind : {A : Type 0} (old new : Store) (d : List DeclInfo) (c : Context) (f : A → ItemSteps) (xs : List A) (n : ℕ) (x : A) (found more : Found) → slice_get xs n ≡ Some x → SomeBehind old d c (map f (take n xs)) found → ((items : List ItemSteps) (types : List Assignment) → Behind old d c items types found → SomeBehind new d c (items ++ f x ∷ []) more) → SomeBehind new d c (map f (take (n + 1) xs)) more
+next_behind old new d c f xs n x found more at (types, k) next = subst (λ items. SomeBehind new d c items more) (sym (fronts f xs n x at)) (next (map f (take n xs)) types k)
