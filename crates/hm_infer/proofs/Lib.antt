@@ -8,3 +8,6 @@ pub mod Readings
 pub mod Agreements
 pub mod Lowerings
 pub mod StepRuns
+pub mod Shown
+pub mod Larges
+pub mod Narrowing

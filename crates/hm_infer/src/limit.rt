@@ -1,10 +1,11 @@
 //! The first step that makes a type too large, found by running the item again.
-ghost use Rattle.std.specs.Prelude.{◌≡◌, ◌<◌, List, [], length, take, IfOk};
+ghost use Rattle.std.specs.Prelude.{◌<◌, ◌≤◌, List, ◌++◌, length, take, IfOk, OnOk};
 ghost use Rattle.ml_typing.specs.Terms.{Context};
+ghost use Rattle.ml_typing.specs.Typing.{Pair, step_pairs};
 ghost use Rattle.ml_typing.specs.Refusals.{Fits};
 ghost use Rattle.hm_terms.specs.Stores.{store};
 ghost use Rattle.hm_terms.specs.Contexts.{IsRead};
-ghost use Rattle.hm_infer.specs.Running.{HasNoIds};
+ghost use Rattle.hm_infer.specs.Running.{HasNoIds, Agrees, Knowing};
 ghost use Rattle.hm_infer.specs.Sizes.{MakesLarge, Narrows, IsFirstLarge};
 
 use crate::run::{Outcome, run_step};
@@ -21,6 +22,16 @@ pub struct Bracket {
     pub high: usize,
 }
 
+/// Runs a step that has a solution with those before it.
+fn run_held(solver: &mut Solver, d: &Decls, step: &Step) -> Result<(), NoMemory>
+    ensures { OnOk result ((c : Context) (before : List Pair) → IsRead (store solver.old) d.now.types c → Agrees (store solver.old) before → Knowing (store solver.new) d.now.types c (before ++ step_pairs c step.now)) }
+{
+    match run_step(solver, d, step)? {
+        Outcome::Holds => Ok(()),
+        _ => Err(NoMemory),
+    }
+}
+
 /// Runs the steps, which together make a type too large and of which the first `low` make none, and
 /// looks after each further `stride` steps.
 fn narrowed(
@@ -30,7 +41,8 @@ fn narrowed(
     low: usize,
     stride: usize,
 ) -> Result<Bracket, NoMemory>
-    ensures { IfOk result (λ b. (c : Context) → IsRead (store solver.old) d.now.types c → HasNoIds (store solver.old) → low < length steps.now → Fits c (take low steps.now) → MakesLarge c steps.now → Narrows (store solver.new) d.now.types c steps.now b) }
+    ensures within { IfOk result (λ b. b.high ≤ length steps.now) }
+    ensures narrows { IfOk result (λ b. (c : Context) → IsRead (store solver.old) d.now.types c → HasNoIds (store solver.old) → low < length steps.now → Fits c (take low steps.now) → MakesLarge c steps.now → Narrows (store solver.new) d.now.types c steps.now b) }
 {
     solver.sound();
     let mut small = low;
@@ -45,11 +57,7 @@ fn narrowed(
             }
             small = number;
         }
-        let outcome = run_step(solver, d, &steps[number])?;
-        // All steps together have a solution.
-        if outcome != Outcome::Holds {
-            return Err(NoMemory);
-        }
+        run_held(solver, d, &steps[number])?;
     }
     Ok(Bracket {
         low: small,

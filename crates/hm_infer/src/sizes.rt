@@ -1,6 +1,7 @@
 //! Whether a type that the steps have is too large.
-ghost use Rattle.std.specs.Prelude.{◌≡◌, min, IfOk};
+ghost use Rattle.std.specs.Prelude.{◌≡◌, min, Some, IfOk};
 ghost use Rattle.std.specs.Bool.{MatchBool};
+ghost use Rattle.ml_types.specs.declared.node.TyId.{TyId as TyIdValue};
 ghost use Rattle.ml_types.specs.Types.{tree_size};
 ghost use Rattle.ml_typing.specs.Typing.{Assignment};
 ghost use Rattle.ml_typing.specs.Refusals.{IsSmall};
@@ -14,7 +15,8 @@ use oxml_base::NoMemory;
 
 /// How many nodes the type of an unknown has as a tree, counted up to 2,001.
 fn size_of(solver: &Solver, unknown: Unknown) -> Result<u64, NoMemory>
-    ensures { IfOk result (λ n. (a : Assignment) → IsShown (store solver.now) a → n ≡ min (tree_size (a unknown)) 2001) }
+    ensures known { IfOk result (λ _. (x : TyIdValue) × ((store solver.now).ids unknown ≡ Some x)) }
+    ensures size { IfOk result (λ n. (a : Assignment) → IsShown (store solver.now) a → n ≡ min (tree_size (a unknown)) 2001) }
 {
     // Each unknown of a step that was run has a type.
     let id = solver.known(unknown).ok_or(NoMemory)?;
