@@ -44,7 +44,7 @@ fn all_pairs(solver: &mut Solver, d: &Decls, steps: &[Step]) -> Result<Vec<(TyId
     Ok(all)
 }
 
-#[tactic(auto, using(crate::proofs::FromShapes::no_infinite))]
+#[tactic(auto, using(crate::proofs::FromShapes::no_infinite, crate::proofs::FromIds::has_infinite))]
 fn probe() -> u8
     ensures { result ≡ 0 }
 {
