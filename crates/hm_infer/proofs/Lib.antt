@@ -1,3 +1,5 @@
+pub mod Trees
+pub mod Congruent
 pub mod Names
 pub mod FromShapes
 pub mod FromIds
