@@ -16,7 +16,9 @@ use Rattle.hm_terms.specs.Stores.{Store}
 use Rattle.hm_terms.specs.Shapes.{Holds}
 use Rattle.hm_terms.proofs.Growth.{stands_within}
 use Rattle.hm_infer.specs.Running.{HoldPairs}
-use Rattle.hm_infer.proofs.Names.{IsFree, tree_cases}
+use Rattle.hm_infer.proofs.Trees.{tree_cases}
+use Rattle.hm_infer.proofs.Congruent.{IsCongruent, congruent}
+use Rattle.hm_infer.proofs.Names.{IsFree}
 
 -- what stands for a leaf, and what for a tree with a head
 abbrev IsLeafAt : List TyNode → Bound → TyId → ℕ → Type 0
@@ -57,21 +59,16 @@ more_at nodes bound xs ts w ws (more x ys t us one all) i =
 cons_same : (t r : Tree) (ts rs : Trees) → t ≡ r → ts ≡ rs → Cons t ts ≡ Cons r rs
 cons_same t r ts rs p q = cc
 
--- names of ids under which nodes with one head and parts of one name have one name
-pub record AreCongruent (nodes : List TyNode) (bound : Bound) (d : TyId → Tree) : Type 0 where
-  pub solution : IsSolution nodes bound d
-  pub same : (x y : TyId) (n m : TyNode) (h : Head) → node_at nodes x ≡ Some n → node_at nodes y ≡ Some m → head_of n ≡ Some h → head_of m ≡ Some h → trees d (parts_of n) ≡ trees d (parts_of m) → d x ≡ d y
-
 -- ids that stand for one tree have one name
-module _ (nodes : List TyNode) (bound : Bound) (d : TyId → Tree) (k : AreCongruent nodes bound d) where
+module _ (nodes : List TyNode) (bound : Bound) (d : TyId → Tree) (solution : IsSolution nodes bound d) (k : IsCongruent nodes d) where
   at_end : (x e : TyId) → Ends nodes bound x e → d x ≡ d e
-  at_end x e ends = Ends-same nodes bound d k.solution.bound_is x e ends
+  at_end x e ends = Ends-same nodes bound d solution.bound_is x e ends
 
   mutual
     one_name : (x y : TyId) (w : Tree) → Stands nodes bound x w → Stands nodes bound y w → d x ≡ d y
     one_name x y w (variable z e n ends at) other =
         let o = leaf_at nodes bound y (Leaf n) n other refl in
-        at_end z e ends ∙ k.solution.one_variable e o.0 n at o.2 ∙ sym (at_end y o.0 o.1)
+        at_end z e ends ∙ solution.one_variable e o.0 n at o.2 ∙ sym (at_end y o.0 o.1)
     one_name x y w (built z e n h ts ends at head all) other =
         let o = node_is_at nodes bound y (Node h ts) h ts other refl in
         at_end z e ends ∙ k.same e o.end n o.node h at o.at head o.head (all_one (parts_of n) (parts_of o.node) ts all o.all) ∙ sym (at_end y o.end o.ends)
@@ -107,7 +104,7 @@ first_is t d (suc n) x h same =
 
 -- ---- names of shapes
 
-module _ (s : Store) (ps : List Pair) (ids : Pairs) (k : IsFree s ps ids) (d : TyId → Tree) (names : AreCongruent s.nodes s.bound d) where
+module _ (s : Store) (ps : List Pair) (ids : Pairs) (k : IsFree s ps ids) (d : TyId → Tree) (solution : IsSolution s.nodes s.bound d) (names : IsCongruent s.nodes d) where
   abbrev AreWithin : List TyId → Type 0
   AreWithin xs = (i : ℕ) (p : TyId) → slice_get xs i ≡ Some p → p.0 < length s.nodes
 
@@ -121,7 +118,7 @@ module _ (s : Store) (ps : List Pair) (ids : Pairs) (k : IsFree s ps ids) (d : T
   name_is : (q : Shape) (x : TyId) → x.0 < length s.nodes → k.types x ≡ tree_of k.shown q → name q ≡ d x
   name_is q x h e =
       ap (first_named k.types d (length s.nodes)) (sym e)
-      ∙ first_is k.types d (length s.nodes) x h (λ y m g. one_name s.nodes s.bound d names y x (k.types x) (subst (Stands s.nodes s.bound y) g (k.stands y m)) (k.stands x h))
+      ∙ first_is k.types d (length s.nodes) x h (λ y m g. one_name s.nodes s.bound d solution names y x (k.types x) (subst (Stands s.nodes s.bound y) g (k.stands y m)) (k.stands x h))
 
   -- the node of a shape with a head
   record NodeOf (x : TyId) (h : Head) (rs : Shapes) : Type 0 where
@@ -143,7 +140,7 @@ module _ (s : Store) (ps : List Pair) (ids : Pairs) (k : IsFree s ps ids) (d : T
         node = n.node;
         at = n.at;
         head = n.head;
-        named = at_end s.nodes s.bound d names x n.end n.ends;
+        named = at_end s.nodes s.bound d solution names x n.end n.ends;
         trees_are = cc;
         within = λ i p q. k.ready.closed.parts_in n.end n.node i p n.at q;
       }
@@ -194,8 +191,8 @@ module _ (s : Store) (ps : List Pair) (ids : Pairs) (k : IsFree s ps ids) (d : T
       let n = node_of x.0 h qs x.1 x.2 in
       let m = node_of y.0 g rs y.1 y.2 in
       let same : d n.end ≡ d m.end = sym n.named ∙ sym (name_is (Make h qs) x.0 x.1 x.2) ∙ e ∙ name_is (Make g rs) y.0 y.1 y.2 ∙ m.named in
-      (names.solution.heads n.end m.end n.node m.node h g n.at m.at n.head m.head same,
-      names_are qs (parts_of n.node) n.within n.trees_are ∙ names.solution.parts n.end m.end n.node m.node h g n.at m.at n.head m.head same ∙ sym (names_are rs (parts_of m.node) m.within m.trees_are))
+      (solution.heads n.end m.end n.node m.node h g n.at m.at n.head m.head same,
+      names_are qs (parts_of n.node) n.within n.trees_are ∙ solution.parts n.end m.end n.node m.node h g n.at m.at n.head m.head same ∙ sym (names_are rs (parts_of m.node) m.within m.trees_are))
 
   infinite : Equates d ids → IsInfinite ps name
   infinite same = record {
@@ -204,15 +201,11 @@ module _ (s : Store) (ps : List Pair) (ids : Pairs) (k : IsFree s ps ids) (d : T
     parts = λ h g qs rs i j e. (both h g qs rs i j e).1;
   }
 
--- every solution among infinite types has one that is congruent, and makes at least as much equal
-abbrev pub HasCongruent : List TyNode → Bound → Type 0
-HasCongruent nodes bound = (c : TyId → Tree) → IsSolution nodes bound c → (d : TyId → Tree) × AreCongruent nodes bound d × ((x y : TyId) → c x ≡ c y → d x ≡ d y)
-
 equates_too : (c d : TyId → Tree) → ((x y : TyId) → c x ≡ c y → d x ≡ d y) → (xs : Pairs) → Equates c xs → Equates d xs
 equates_too c d h [] e = tt
 equates_too c d h (x ∷ xs) e = (h x.0 x.1 e.0, equates_too c d h xs e.1)
 
-pub has_infinite : (s : Store) (ps : List Pair) (ids : Pairs) → IsFree s ps ids → HasCongruent s.nodes s.bound → unify.HasInfinite s.nodes s.bound ids → HasInfinite ps
-has_infinite s ps ids k congruent (c, solution, same) =
-    let d = congruent c solution in
-    (name s ps ids k d.0 d.1, infinite s ps ids k d.0 d.1 (equates_too c d.0 d.2 ids same))
+pub has_infinite : (s : Store) (ps : List Pair) (ids : Pairs) → IsFree s ps ids → unify.HasInfinite s.nodes s.bound ids → HasInfinite ps
+has_infinite s ps ids k (c, solution, same) =
+    let d = congruent s.nodes s.bound c solution in
+    (name s ps ids k d.0 d.1 d.2, infinite s ps ids k d.0 d.1 d.2 (equates_too c d.0 d.3 ids same))

@@ -3,3 +3,5 @@ pub mod Congruent
 pub mod Names
 pub mod FromShapes
 pub mod FromIds
+pub mod StepPairs
+pub mod Decided

@@ -1,9 +1,8 @@
--- Trees told apart, and solvers in which the unknowns are free: what their types then say of the shapes of
--- pairs.
+-- Solvers in which the unknowns are free, and what the types of their ids say of the shapes of pairs: which
+-- shape has a tree, and that it is one alone.
 use Rattle.std.proofs.Common.{◌≡◌, ℕ, ◌<◌, ◌⊎◌, List, [], ◌∷◌, length, Option, Some, None, refl, sym, ap, ◌∙◌, inl, inr, ⊎_elim, subst}
-use Rattle.std.proofs.lemmas.Bool.{cases_eq}
 use Rattle.ml_types.specs.declared.node.TyId.{TyId}
-use Rattle.ml_types.specs.Types.{Head, ConHead, TupleHead, ArrowHead, Tree, Leaf, Node, Trees, Nil, Cons}
+use Rattle.ml_types.specs.Types.{Head, Tree, Leaf, Node, Trees}
 use Rattle.ml_typing.specs.declared.equation.Unknown.{Unknown}
 use Rattle.ml_typing.specs.Terms.{Shape, Is, Make, Shapes, no_shapes, shape_and}
 use Rattle.ml_typing.specs.Typing.{Assignment, Pair, tree_of, trees_of, at_types, StandsIn, StandsInAny}
@@ -13,47 +12,7 @@ use Rattle.hm_terms.specs.Stores.{Store, Reading, IsReady}
 use Rattle.hm_terms.specs.Shapes.{Holds}
 use Rattle.hm_terms.proofs.Holding.{unknown_cases}
 use Rattle.hm_infer.specs.Running.{HoldPairs}
-
--- ---- trees
-
-pub head_cases : (h k : Head) → (h ≡ k) ⊎ (h ≡ k → ⊥)
-head_cases (ConHead d n) (ConHead e m) = by (cases_eq d e) (cases_eq n m)
-  where
-    by : (d ≡ e) ⊎ (d ≡ e → ⊥) → (n ≡ m) ⊎ (n ≡ m → ⊥) → (ConHead d n ≡ ConHead e m) ⊎ (ConHead d n ≡ ConHead e m → ⊥)
-    by (inl p) (inl q) = inl cc
-    by (inl p) (inr q) = inr (λ (h : ConHead d n ≡ ConHead e m). q cc)
-    by (inr p) q = inr (λ (h : ConHead d n ≡ ConHead e m). p cc)
-head_cases (TupleHead n) (TupleHead m) = ⊎_elim (λ e. inl (ap TupleHead e)) (λ d. inr (λ (h : TupleHead n ≡ TupleHead m). d cc)) (cases_eq n m)
-head_cases ArrowHead ArrowHead = inl refl
-head_cases (ConHead d n) (TupleHead m) = inr (λ h. cc)
-head_cases (ConHead d n) ArrowHead = inr (λ h. cc)
-head_cases (TupleHead n) (ConHead e m) = inr (λ h. cc)
-head_cases (TupleHead n) ArrowHead = inr (λ h. cc)
-head_cases ArrowHead (ConHead e m) = inr (λ h. cc)
-head_cases ArrowHead (TupleHead m) = inr (λ h. cc)
-
-node_by : (h k : Head) (ts rs : Trees) → (h ≡ k) ⊎ (h ≡ k → ⊥) → (ts ≡ rs) ⊎ (ts ≡ rs → ⊥) → (Node h ts ≡ Node k rs) ⊎ (Node h ts ≡ Node k rs → ⊥)
-node_by h k ts rs (inl p) (inl q) = inl cc
-node_by h k ts rs (inl p) (inr q) = inr (λ (e : Node h ts ≡ Node k rs). q cc)
-node_by h k ts rs (inr p) q = inr (λ (e : Node h ts ≡ Node k rs). p cc)
-
-cons_by : (t r : Tree) (ts rs : Trees) → (t ≡ r) ⊎ (t ≡ r → ⊥) → (ts ≡ rs) ⊎ (ts ≡ rs → ⊥) → (Cons t ts ≡ Cons r rs) ⊎ (Cons t ts ≡ Cons r rs → ⊥)
-cons_by t r ts rs (inl p) (inl q) = inl cc
-cons_by t r ts rs (inl p) (inr q) = inr (λ (e : Cons t ts ≡ Cons r rs). q cc)
-cons_by t r ts rs (inr p) q = inr (λ (e : Cons t ts ≡ Cons r rs). p cc)
-
-mutual
-  pub tree_cases : (w v : Tree) → (w ≡ v) ⊎ (w ≡ v → ⊥)
-  tree_cases (Leaf n) (Leaf m) = ⊎_elim (λ e. inl (ap Leaf e)) (λ d. inr (λ (h : Leaf n ≡ Leaf m). d cc)) (cases_eq n m)
-  tree_cases (Leaf n) (Node k rs) = inr (λ h. cc)
-  tree_cases (Node h ts) (Leaf m) = inr (λ h. cc)
-  tree_cases (Node h ts) (Node k rs) = node_by h k ts rs (head_cases h k) (trees_cases ts rs)
-
-  pub trees_cases : (ws vs : Trees) → (ws ≡ vs) ⊎ (ws ≡ vs → ⊥)
-  trees_cases Nil Nil = inl refl
-  trees_cases Nil (Cons r rs) = inr (λ h. cc)
-  trees_cases (Cons t ts) Nil = inr (λ h. cc)
-  trees_cases (Cons t ts) (Cons r rs) = cons_by t r ts rs (tree_cases t r) (trees_cases ts rs)
+use Rattle.hm_infer.proofs.Trees.{tree_cases}
 
 -- ---- solvers with free unknowns
 

@@ -1,5 +1,5 @@
 //! Which rule refuses steps that have no solution.
-ghost use Rattle.std.specs.Prelude.{◌≡◌, IfOk, OnOk, List, ◌++◌};
+ghost use Rattle.std.specs.Prelude.{IfOk, OnOk, List, ◌++◌};
 ghost use Rattle.oxml_base.specs.Rules.{rule_number};
 ghost use Rattle.ml_typing.specs.Terms.{Context};
 ghost use Rattle.ml_typing.specs.Typing.{Pair, pairs};
@@ -42,11 +42,4 @@ fn all_pairs(solver: &mut Solver, d: &Decls, steps: &[Step]) -> Result<Vec<(TyId
         push_pairs(solver, d, step.equations.as_slice(), &mut all)?;
     }
     Ok(all)
-}
-
-#[tactic(auto, using(crate::proofs::FromShapes::no_infinite, crate::proofs::FromIds::has_infinite))]
-fn probe() -> u8
-    ensures { result ≡ 0 }
-{
-    0
 }

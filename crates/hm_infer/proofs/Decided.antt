@@ -1,0 +1,59 @@
+-- Which rule refuses pairs, from what the solver says of them where it knows nothing else.
+use Rattle.std.proofs.Common.{◌≡◌, ℕ, ◌<◌, ◌⊎◌, List, length, Option, Some, None, refl, sym, ap, ◌∙◌, inl, inr}
+use Rattle.ml_types.specs.declared.node.TyId.{TyId}
+use Rattle.ml_types.specs.Types.{Tree}
+use Rattle.ml_types.specs.declared.declared.DeclInfo.{DeclInfo}
+use Rattle.ml_typing.specs.declared.equation.Unknown.{Unknown}
+use Rattle.ml_typing.specs.Terms.{Context}
+use Rattle.ml_typing.specs.Typing.{Assignment, Pair}
+use Rattle.ml_typing.specs.Refusals.{IsRuleOf}
+use Rattle.hm_unify.specs.Solutions.{Pairs}
+use Rattle.hm_unify.specs.States.{IsSound, Refused}
+use Rattle.hm_unify.specs.declared.error.UnifyErr.TheVariants.{Clash, Cycle}
+use Rattle.hm_terms.specs.Stores.{Store, state, Reading, IsReady, Grows, Forgets}
+use Rattle.hm_terms.specs.Contexts.{IsRead}
+use Rattle.hm_infer.specs.Running.{HoldPairs, LowersPairs, HasNoIds}
+use Rattle.hm_infer.proofs.Readings.{read_forgets}
+use Rattle.hm_infer.proofs.Shown.{shown, shown_reading, at_other_types}
+use Rattle.hm_infer.proofs.Names.{IsFree}
+use Rattle.hm_infer.proofs.FromShapes.{no_infinite}
+use Rattle.hm_infer.proofs.FromIds.{has_infinite}
+
+-- where no unknown has come up, unknowns may have any types, and they may still where nothing was made equal
+all_read : (s : Store) → IsSound s.nodes s.bound → HasNoIds s → (a : Assignment) → (t : TyId → Tree) × Reading s t a
+all_read s sound none a = (sound.solvable.0, record { solves = sound.solvable.1; reads = λ u x p. absurd (let q : None ≡ Some x = sym (none u) ∙ p in cc) })
+
+all_read_on : (old new : Store) → IsReady old → Grows old new → ((a : Assignment) → (t : TyId → Tree) × Reading old t a) → (a : Assignment) → (t : TyId → Tree) × Reading new t a
+all_read_on old new r g free a =
+    let k = free a in
+    let e = g.extends r k.0 a k.1 in
+    (e.types, e.reading)
+
+is_free : (s : Store) (ps : List Pair) (ids : Pairs) → IsReady s → IsSound s.nodes s.bound → HoldPairs s ps ids → ((a : Assignment) → (t : TyId → Tree) × Reading s t a) → IsFree s ps ids
+is_free s ps ids r sound hold free =
+    let a = shown s r sound in
+    let k = shown_reading s a.0 r sound a.1 in
+    record {
+      ready = r;
+      hold = hold;
+      free = free;
+      types = k.0;
+      shown = a.0;
+      reading = k.1;
+      stands = k.2;
+      instances = λ t solves. (let f = at_other_types s t solves in (f.0, λ x h. f.1 x (k.0 x) (k.2 x h)));
+    }
+
+lowered : (old mid new : Store) (decls : List DeclInfo) (c : Context) (ps : List Pair) (ids : Pairs) → IsRead old decls c → Forgets old mid → IsSound mid.nodes mid.bound → (IsRead mid decls c → LowersPairs mid new ps ids) → IsSound new.nodes new.bound → IsFree new ps ids
+lowered old mid new decls c ps ids read forgets sound lowers after =
+    let r : IsRead mid decls c = read_forgets old mid decls c read forgets in
+    let l : LowersPairs mid new ps ids = lowers r in
+    is_free new ps ids (l.grows.ready r.ready) after l.hold (all_read_on mid new r.ready l.grows (all_read mid sound forgets.none))
+
+pub types_differ : (old mid new : Store) (decls : List DeclInfo) (c : Context) (ps : List Pair) (ids : Pairs) (k : ℕ) → IsRead old decls c → Forgets old mid → IsSound mid.nodes mid.bound → (IsRead mid decls c → LowersPairs mid new ps ids) → IsSound new.nodes new.bound → Refused (state new) ids (Clash k) → IsRuleOf 40 ps
+types_differ old mid new decls c ps ids k read forgets sound lowers after refused =
+    inl (refl, no_infinite new ps ids (lowered old mid new decls c ps ids read forgets sound lowers after) refused.0)
+
+pub infinite_type : (old mid new : Store) (decls : List DeclInfo) (c : Context) (ps : List Pair) (ids : Pairs) (k : ℕ) → IsRead old decls c → Forgets old mid → IsSound mid.nodes mid.bound → (IsRead mid decls c → LowersPairs mid new ps ids) → IsSound new.nodes new.bound → Refused (state new) ids (Cycle k) → IsRuleOf 41 ps
+infinite_type old mid new decls c ps ids k read forgets sound lowers after refused =
+    inr (refl, has_infinite new ps ids (lowered old mid new decls c ps ids read forgets sound lowers after) refused.0)
