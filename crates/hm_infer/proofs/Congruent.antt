@@ -5,7 +5,7 @@ use Rattle.std.proofs.lemmas.Bool.{cases_eq}
 use Rattle.std.proofs.lemmas.Option.{slice_get_within}
 use Rattle.ml_types.specs.declared.node.TyId.{TyId}
 use Rattle.ml_types.specs.declared.node.TyNode.{TyNode}
-use Rattle.ml_types.specs.Types.{Head, head_of, parts_of, Tree, Trees, Nil, Cons, trees}
+use Rattle.ml_types.specs.Types.{Head, head_of, parts_of, Tree, Nil, Cons, trees}
 use Rattle.hm_unify.specs.Solutions.{Bound, node_at, IsSolution}
 use Rattle.hm_infer.proofs.Trees.{head_cases, tree_cases, trees_cases}
 
@@ -262,11 +262,11 @@ row_fewer c d f x (suc k) = omega (arith, row_fewer c d f x k, unlike_fewer (c x
 row_less : (c d : TyId → Tree) → Keeps c d → (x : TyId) (k y : ℕ) → y < k → (c x ≡ c (id y) → ⊥) → d x ≡ d (id y) → row d x k < row c x k
 unfolding row
 row_less c d f x zero y w a e = absurd (omega arith)
-row_less c d f x (suc k) y w a e = by (cases_eq y k)
+row_less c d f x (suc k) y w a e = by (λ v. row_less c d f x k y v a e) (cases_eq y k)
   where
-    by : (y ≡ k) ⊎ (y ≡ k → ⊥) → unlike (d x) (d (id k)) + row d x k < unlike (c x) (c (id k)) + row c x k
-    by (inl i) = omega (arith, row_fewer c d f x k, unlike_less (c x) (c (id k)) (d x) (d (id k)) (subst (λ z. c x ≡ c (id z) → ⊥) i a) (subst (λ z. d x ≡ d (id z)) i e))
-    by (inr i) = omega (arith, row_less c d f x k y (omega (arith, w, i)) a e, unlike_fewer (c x) (c (id k)) (d x) (d (id k)) (f x (id k)))
+    by : (y < k → row d x k < row c x k) → (y ≡ k) ⊎ (y ≡ k → ⊥) → unlike (d x) (d (id k)) + row d x k < unlike (c x) (c (id k)) + row c x k
+    by more (inl i) = omega (arith, row_fewer c d f x k, unlike_less (c x) (c (id k)) (d x) (d (id k)) (subst (λ z. c x ≡ c (id z) → ⊥) i a) (subst (λ z. d x ≡ d (id z)) i e))
+    by more (inr i) = omega (arith, more (omega (arith, w, i)), unlike_fewer (c x) (c (id k)) (d x) (d (id k)) (f x (id k)))
 
 table_fewer : (c d : TyId → Tree) → Keeps c d → (j k : ℕ) → table d j k ≤ table c j k
 unfolding table
@@ -276,11 +276,11 @@ table_fewer c d f (suc j) k = omega (arith, table_fewer c d f j k, row_fewer c d
 table_less : (c d : TyId → Tree) → Keeps c d → (j k x y : ℕ) → x < j → y < k → (c (id x) ≡ c (id y) → ⊥) → d (id x) ≡ d (id y) → table d j k < table c j k
 unfolding table
 table_less c d f zero k x y v w a e = absurd (omega arith)
-table_less c d f (suc j) k x y v w a e = by (cases_eq x j)
+table_less c d f (suc j) k x y v w a e = by (λ u. table_less c d f j k x y u w a e) (cases_eq x j)
   where
-    by : (x ≡ j) ⊎ (x ≡ j → ⊥) → row d (id j) k + table d j k < row c (id j) k + table c j k
-    by (inl i) = omega (arith, table_fewer c d f j k, row_less c d f (id j) k y w (subst (λ z. c (id z) ≡ c (id y) → ⊥) i a) (subst (λ z. d (id z) ≡ d (id y)) i e))
-    by (inr i) = omega (arith, table_less c d f j k x y (omega (arith, v, i)) w a e, row_fewer c d f (id j) k)
+    by : (x < j → table d j k < table c j k) → (x ≡ j) ⊎ (x ≡ j → ⊥) → row d (id j) k + table d j k < row c (id j) k + table c j k
+    by more (inl i) = omega (arith, table_fewer c d f j k, row_less c d f (id j) k y w (subst (λ z. c (id z) ≡ c (id y) → ⊥) i a) (subst (λ z. d (id z) ≡ d (id y)) i e))
+    by more (inr i) = omega (arith, more (omega (arith, v, i)), row_fewer c d f (id j) k)
 
 -- ---- the names
 
@@ -289,14 +289,14 @@ Found nodes bound c = (d : TyId → Tree) × IsSolution nodes bound d × IsCongr
 
 found : (nodes : List TyNode) (bound : Bound) (fuel : ℕ) (c : TyId → Tree) → IsSolution nodes bound c → table c (length nodes) (length nodes) < fuel → Found nodes bound c
 found nodes bound zero c s w = absurd (omega arith)
-found nodes bound (suc fuel) c s w = by (apart_or_none nodes c)
+found nodes bound (suc fuel) c s w = by (λ d k v. found nodes bound fuel d k v) (apart_or_none nodes c)
   where
-    by : SomeApart nodes c ⊎ IsCongruent nodes c → Found nodes bound c
-    by (inr k) = (c, s, k, λ x y e. e)
-    by (inl a) =
+    by : ((d : TyId → Tree) → IsSolution nodes bound d → table d (length nodes) (length nodes) < fuel → Found nodes bound d) → SomeApart nodes c ⊎ IsCongruent nodes c → Found nodes bound c
+    by again (inr k) = (c, s, k, λ x y e. e)
+    by again (inl a) =
         let d = joined c a.0 a.1 in
         let less = table_less c d (joined_keeps c a.0 a.1) (length nodes) (length nodes) a.0.0 a.1.0 (slice_get_within nodes a.0.0 a.2.n a.2.at_x) (slice_get_within nodes a.1.0 a.2.m a.2.at_y) a.2.apart (joined_one c a.0 a.1) in
-        let more = found nodes bound fuel d (joined_solution nodes bound c a.0 a.1 s a.2) (omega (arith, w, less)) in
+        let more = again d (joined_solution nodes bound c a.0 a.1 s a.2) (omega (arith, w, less)) in
         (more.0, more.1, more.2, λ x y e. more.3 x y (joined_keeps c a.0 a.1 x y e))
 
 pub congruent : (nodes : List TyNode) (bound : Bound) (c : TyId → Tree) → IsSolution nodes bound c → (d : TyId → Tree) × IsSolution nodes bound d × IsCongruent nodes d × ((x y : TyId) → c x ≡ c y → d x ≡ d y)
