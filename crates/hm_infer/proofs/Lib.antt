@@ -5,3 +5,6 @@ pub mod FromShapes
 pub mod FromIds
 pub mod StepPairs
 pub mod Decided
+pub mod Stable
+pub mod Apart
+pub mod Readings

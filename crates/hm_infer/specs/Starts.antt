@@ -1,5 +1,5 @@
 -- What inference begins with.
-use Rattle.std.specs.Prelude.{◌≡◌, ℕ, ◌<◌, List, ◌++◌, [], ◌∷◌, Some, slice_get}
+use Rattle.std.specs.Prelude.{◌≡◌, ℕ, ◌<◌, List, Some, slice_get}
 use Rattle.ml_types.specs.declared.node.TyId.{TyId}
 use Rattle.ml_types.specs.declared.node.TyNode.TheVariants.{Arrow}
 use Rattle.ml_types.specs.declared.declared.DeclInfo.{DeclInfo}

@@ -18,6 +18,7 @@ use oxml_base::{Items, NoMemory};
 use std::alloc::Global;
 
 /// A solver before the first item, over the declared types.
+#[tactic(auto, using(crate::proofs::Readings::read_forgets))]
 pub fn first_solver(alloc: Global, table: TyTable) -> Result<Solver, NoMemory>
     requires { IsTable table.nodes }
     ensures read { IfOk result (λ s. (decls : List DeclInfo) (declared : TyIdValue → Tree) → AreWithin (length table.nodes) decls → Reads table.nodes declared → IsRead (store s) decls (first_context decls declared)) }
