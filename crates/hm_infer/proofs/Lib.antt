@@ -8,3 +8,4 @@ pub mod Decided
 pub mod Stable
 pub mod Apart
 pub mod Readings
+pub mod Shown
