@@ -9,3 +9,6 @@ pub mod Stable
 pub mod Apart
 pub mod Readings
 pub mod Shown
+pub mod Agreements
+pub mod Lowerings
+pub mod StepRuns
