@@ -11,7 +11,6 @@ use Rattle.ml_types.specs.declared.node.TyNode.TheVariants.{Var, Con, Tuple, Arr
 use Rattle.ml_types.specs.Types.{Head, head_of, parts_of, Tree, Leaf, Node, Trees, Nil, Cons, trees, tree_size, trees_size}
 use Rattle.ml_typing.specs.declared.equation.Unknown.{Unknown}
 use Rattle.ml_typing.specs.Typing.{Assignment, Pair, Satisfies, at_types, all_at_types, Occurs, IsInstance, IsPrincipal}
-use Rattle.ml_typing.proofs.Typings.{size_grows}
 use Rattle.hm_unify.specs.Solutions.{Bound, node_at, link, Ends, here, there, Solves, Stands, variable, built, StandAll, none, more}
 use Rattle.hm_unify.specs.States.{IsTabled, IsSound}
 use Rattle.hm_unify.specs.Closing.{end_at}
@@ -121,9 +120,9 @@ parts_stand nodes bound t k each (p ∷ ps) within h =
     let all = parts_stand nodes bound t k each ps (λ i q e. within (suc i) q e) (omega (arith, h)) in
     (Cons one.0 all.0, more p ps one.0 all.0 one.1 all.1)
 
-stands_by : (nodes : List TyNode) (bound : Bound) (t : TyId → Tree) → IsTabled nodes bound → Solves nodes bound t → (k : ℕ) (x : TyId) → x.0 < length nodes → tree_size (t x) ≤ k → SomeTree nodes bound x
-stands_by nodes bound t tabled s zero x within h = absurd (omega (arith, h, some_size (t x)))
-stands_by nodes bound t tabled s (suc k) x within h = by at.0 at.1 (headed at.0)
+-- the tree of an id, where ids with smaller types stand for trees
+stands_next : (nodes : List TyNode) (bound : Bound) (t : TyId → Tree) (k : ℕ) → IsTabled nodes bound → Solves nodes bound t → ((x : TyId) → x.0 < length nodes → tree_size (t x) ≤ k → SomeTree nodes bound x) → (x : TyId) → x.0 < length nodes → tree_size (t x) ≤ suc k → SomeTree nodes bound x
+stands_next nodes bound t k tabled s each x within h = by at.0 at.1 (headed at.0)
   where
     e : TyId
     e = end_at nodes bound x
@@ -139,8 +138,12 @@ stands_by nodes bound t tabled s (suc k) x within h = by at.0 at.1 (headed at.0)
     by n is (inr v) =
         let whole : t x ≡ Node v.0 (trees t (parts_of n)) = Ends-same nodes bound t s.bound_is x e ends ∙ s.nodes_are e n v.0 is v.1 in
         let small : trees_size (trees t (parts_of n)) ≤ k = omega (arith, h, ap tree_size whole) in
-        let all = parts_stand nodes bound t k (stands_by nodes bound t tabled s k) (parts_of n) (λ i p q. tabled.parts_in e n i p is q) small in
+        let all = parts_stand nodes bound t k each (parts_of n) (λ i p q. tabled.parts_in e n i p is q) small in
         (Node v.0 all.0, built x e n v.0 all.0 ends is v.1 all.1)
+
+stands_by : (nodes : List TyNode) (bound : Bound) (t : TyId → Tree) → IsTabled nodes bound → Solves nodes bound t → (k : ℕ) (x : TyId) → x.0 < length nodes → tree_size (t x) ≤ k → SomeTree nodes bound x
+stands_by nodes bound t tabled s zero x within h = absurd (omega (arith, h, some_size (t x)))
+stands_by nodes bound t tabled s (suc k) x within h = stands_next nodes bound t k tabled s (stands_by nodes bound t tabled s k) x within h
 
 pub some_tree : (nodes : List TyNode) (bound : Bound) → IsSound nodes bound → (x : TyId) → x.0 < length nodes → SomeTree nodes bound x
 some_tree nodes bound s x h = stands_by nodes bound s.solvable.0 s.tabled s.solvable.1 (tree_size (s.solvable.0 x)) x h (omega arith)
@@ -271,7 +274,7 @@ starts s k no_ids = record {
   known = λ u o. absurd o;
 }
 
-type_of : (TyId → Tree) → Option TyId → Tree
+abbrev type_of : (TyId → Tree) → Option TyId → Tree
 type_of t None = Leaf 0
 type_of t (Some x) = t x
 
@@ -285,7 +288,6 @@ shown s r k = (a, each)
     a u = type_of t (s.ids u)
 
     by : (o : Option TyId) (x : TyId) → o ≡ Some x → Stands s.nodes s.bound x (t x) → Stands s.nodes s.bound x (type_of t o)
-    unfolding type_of
     by None x e h = absurd (let q : None ≡ Some x = e in cc)
     by (Some y) x e h = let q : x ≡ y = cc in subst (λ (z : TyId). Stands s.nodes s.bound x (t z)) q h
 
@@ -303,20 +305,36 @@ shown_unique s a b h k u x p = tree_unique s.nodes s.bound x (a u) (b u) (h u x 
 
 -- ---- as the solver grows
 
-mutual
-  stands_back : (old new : Store) → Longer old new → IsReady old → (x : TyId) (w : Tree) → x.0 < length old.nodes → Stands new.nodes new.bound x w → Stands old.nodes old.bound x w
-  stands_back old new l r x w h (variable y e n ends at) =
-      let back = ends_back old new l r.closed y e h ends in
-      variable y e n back (sym (node_same old new l e (end_within old r.closed y e h back)) ∙ at)
-  stands_back old new l r x w h (built y e n i ts ends at head all) =
-      let back = ends_back old new l r.closed y e h ends in
-      let is : node_at old.nodes e ≡ Some n = sym (node_same old new l e (end_within old r.closed y e h back)) ∙ at in
-      built y e n i ts back is head (stand_all_back old new l r (parts_of n) ts (λ j p q. r.closed.parts_in e n j p is q) all)
+-- what stands at the ids of the older table stands there in the newer one
+record Below (count : ℕ) (nodes others : List TyNode) (m k : Bound) : Type 0 where
+  ends : (x e : TyId) → x.0 < count → Ends nodes m x e → Ends others k x e
+  node_is : (x e : TyId) (n : TyNode) → x.0 < count → Ends nodes m x e → node_at nodes e ≡ Some n → node_at others e ≡ Some n
+  part : (x e : TyId) (n : TyNode) (i : ℕ) (p : TyId) → x.0 < count → Ends nodes m x e → node_at nodes e ≡ Some n → slice_get (parts_of n) i ≡ Some p → p.0 < count
 
-  stand_all_back : (old new : Store) → Longer old new → IsReady old → (xs : List TyId) (ws : Trees) → ((i : ℕ) (p : TyId) → slice_get xs i ≡ Some p → p.0 < length old.nodes) → StandAll new.nodes new.bound xs ws → StandAll old.nodes old.bound xs ws
-  stand_all_back old new l r xs ws within none = none
-  stand_all_back old new l r xs ws within (more x ys w us one all) =
-      more x ys w us (stands_back old new l r x w (within 0 x refl) one) (stand_all_back old new l r ys us (λ i p q. within (suc i) p q) all)
+mutual
+  stands_below : (count : ℕ) (nodes others : List TyNode) (m k : Bound) → Below count nodes others m k → (x : TyId) (w : Tree) → x.0 < count → Stands nodes m x w → Stands others k x w
+  stands_below count nodes others m k s x w h (variable y e n ends at) = variable y e n (s.ends y e h ends) (s.node_is y e (Var n) h ends at)
+  stands_below count nodes others m k s x w h (built y e n i ts ends at head all) =
+      built y e n i ts (s.ends y e h ends) (s.node_is y e n h ends at) head
+      (stand_all_below count nodes others m k s (parts_of n) ts (λ j p q. s.part y e n j p h ends at q) all)
+
+  stand_all_below : (count : ℕ) (nodes others : List TyNode) (m k : Bound) → Below count nodes others m k → (xs : List TyId) (ws : Trees) → ((i : ℕ) (p : TyId) → slice_get xs i ≡ Some p → p.0 < count) → StandAll nodes m xs ws → StandAll others k xs ws
+  stand_all_below count nodes others m k s xs ws within none = none
+  stand_all_below count nodes others m k s xs ws within (more x ys w us one all) =
+      more x ys w us (stands_below count nodes others m k s x w (within 0 x refl) one) (stand_all_below count nodes others m k s ys us (λ i p q. within (suc i) p q) all)
+
+below : (old new : Store) → Longer old new → IsReady old → Below (length old.nodes) new.nodes old.nodes new.bound old.bound
+below old new l r = record {
+  ends = λ x e h ends. ends_back old new l r.closed x e h ends;
+  node_is = λ x e n h ends at. node_is x e n h ends at;
+  part = λ x e n i p h ends at q. r.closed.parts_in e n i p (node_is x e n h ends at) q;
+}
+  where
+    node_is : (x e : TyId) (n : TyNode) → x.0 < length old.nodes → Ends new.nodes new.bound x e → node_at new.nodes e ≡ Some n → node_at old.nodes e ≡ Some n
+    node_is x e n h ends at = sym (node_same old new l e (end_within old r.closed x e h (ends_back old new l r.closed x e h ends))) ∙ at
+
+stands_back : (old new : Store) → Longer old new → IsReady old → (x : TyId) (w : Tree) → x.0 < length old.nodes → Stands new.nodes new.bound x w → Stands old.nodes old.bound x w
+stands_back old new l r x w h k = stands_below (length old.nodes) new.nodes old.nodes new.bound old.bound (below old new l r) x w h k
 
 pub shown_grows : (old new : Store) (a : Assignment) → IsReady old → Grows old new → IsShown new a → IsShown old a
 shown_grows old new a r g shows u x p = stands_back old new (longer old new g) r x (a u) (r.within u x p) (shows u x (g.ids u x p))
@@ -341,6 +359,16 @@ principal s ps a r k agrees shows = record {
           types = f.0;
           each = λ u o. (let x = agrees.known u o in sym (w.1.reads u x.0 x.1) ∙ f.1 x.0 (a u) (shows u x.0 x.1));
         }
+
+-- a type does not shrink where its variables get other types
+mutual
+  size_grows : (f : ℕ → Tree) (t : Tree) → tree_size t ≤ tree_size (at_types f t)
+  size_grows f (Leaf n) = some_size (f n)
+  size_grows f (Node h ts) = omega (arith, sizes_grow f ts)
+
+  sizes_grow : (f : ℕ → Tree) (ts : Trees) → trees_size ts ≤ trees_size (all_at_types f ts)
+  sizes_grow f Nil = omega arith
+  sizes_grow f (Cons t ts) = omega (arith, size_grows f t, sizes_grow f ts)
 
 pub least : (s : Store) (ps : List Pair) (a b : Assignment) (v : Unknown) (x : TyId) → IsReady s → Agrees s ps → IsShown s a → Satisfies b ps → s.ids v ≡ Some x → tree_size (a v) ≤ tree_size (b v)
 least s ps a b v x r agrees shows h p =
