@@ -87,10 +87,13 @@ agrees_grows old new ps k r g = record {
 pub agrees_equated : (old new : Store) (ps qs : List Pair) (ids : Pairs) → Agrees old ps → HoldPairs old qs ids → Equated (state old) (state new) ids → ((u : Unknown) → new.ids u ≡ old.ids u) → Agrees new (ps ++ qs)
 agrees_equated old new ps qs ids k h e same = record {
   forth = λ t a r. (let b = back t a r in satisfies_both a ps qs (k.forth t a b.0) (pairs_satisfy old t a b.0 qs ids h b.1));
-  back = λ a sat. (let w = k.back a (satisfies_first a ps qs sat) in (w.0, record {
-    solves = subst (λ (ns : List TyNode). Solves ns new.bound w.0) (sym e.nodes) (e.back w.0 w.1.solves (pairs_equate old w.0 a w.1 qs ids h (satisfies_last a ps qs sat)));
-    reads = λ u x p. w.1.reads u x (sym (same u) ∙ p);
-  }));
+  back = λ a sat. (let w = k.back a (satisfies_first a ps qs sat) in (
+    w.0,
+    record {
+      solves = subst (λ (ns : List TyNode). Solves ns new.bound w.0) (sym e.nodes) (e.back w.0 w.1.solves (pairs_equate old w.0 a w.1 qs ids h (satisfies_last a ps qs sat)));
+      reads = λ u x p. w.1.reads u x (sym (same u) ∙ p);
+    },
+  ));
   known = λ u o. (let w = known u (occurs_either u ps qs o) in (w.0, same u ∙ w.1));
 }
   where

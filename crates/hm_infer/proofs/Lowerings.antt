@@ -10,8 +10,8 @@ use Rattle.ml_typing.specs.declared.equation.Equation.{Equation}
 use Rattle.ml_typing.specs.Terms.{Context, Is, shape_of}
 use Rattle.ml_typing.specs.Typing.{Pair, pair_of}
 use Rattle.hm_unify.specs.Solutions.{Pairs}
-use Rattle.hm_terms.specs.Stores.{Store, Knows, IsReady, Grows}
-use Rattle.hm_terms.specs.Shapes.{Holds, Lowers}
+use Rattle.hm_terms.specs.Stores.{Store, Knows, Grows}
+use Rattle.hm_terms.specs.Shapes.{Lowers}
 use Rattle.hm_terms.specs.Contexts.{IsRead}
 use Rattle.hm_terms.proofs.Growth.{grows_same, grows_then}
 use Rattle.hm_terms.proofs.Holding.{grows_unknown, holds_grows, knows_lowers}
@@ -59,7 +59,7 @@ push_next first old new decls c before es n e x ids more lt is k l one grown =
     let ps = before ++ map (pair_of c) (take n es) in
     let held : HoldPairs new (ps ++ pair_of c e ∷ []) (ids ++ x ∷ []) = hold_push new ps ids (pair_of c e) x (hold_pairs_grow old new (l.grows.ready k.ready) next.grows ps ids l.hold) next.hold in
     let same : before ++ map (pair_of c) (take (n + 1) es) ≡ ps ++ pair_of c e ∷ [] =
-        ap (λ (qs : List Pair). before ++ qs) (map_take (pair_of c) es n e (slice_get_read es (length es) n e refl lt is)) ∙ sym (append_assoc before (map (pair_of c) (take n es)) (pair_of c e ∷ [])) in
+    ap (λ (qs : List Pair). before ++ qs) (map_take (pair_of c) es n e (slice_get_read es (length es) n e refl lt is)) ∙ sym (append_assoc before (map (pair_of c) (take n es)) (pair_of c e ∷ [])) in
     record {
       grows = grows_then first old new l.grows next.grows;
       hold = subst (λ (is : Pairs). HoldPairs new (before ++ map (pair_of c) (take (n + 1) es)) is) (sym grown)

@@ -1,5 +1,5 @@
 -- Steps as they are run, one after the other.
-use Rattle.std.proofs.Common.{◌≡◌, ℕ, zero, suc, ◌+◌, ◌<◌, ◌≤◌, List, [], ◌∷◌, ◌++◌, map, take, length, Some, None, refl, sym, ap, ◌∙◌, subst, add-one, append_assoc, arith}
+use Rattle.std.proofs.Common.{◌≡◌, ℕ, zero, suc, ◌+◌, ◌≤◌, List, [], ◌∷◌, ◌++◌, map, take, length, Some, None, refl, sym, ap, ◌∙◌, subst, add-one, append_assoc, arith}
 use Rattle.std.specs.List.{slice_get}
 use Rattle.std.proofs.lemmas.List.{append-nil}
 use Rattle.oxml_base.specs.declared.span.Span.{Span}
@@ -13,14 +13,14 @@ use Rattle.hm_unify.specs.Solutions.{Pairs, IsFirstFault, IsTooLarge}
 use Rattle.hm_unify.specs.States.{Equated, Refused}
 use Rattle.hm_unify.specs.declared.error.UnifyErr.{UnifyErr}
 use Rattle.hm_unify.specs.declared.error.UnifyErr.TheVariants.{Clash, Cycle, TooLarge}
-use Rattle.hm_terms.specs.Stores.{Store, state}
+use Rattle.hm_terms.specs.Stores.{Store, state, SameNames}
 use Rattle.hm_terms.specs.Contexts.{IsRead}
 use Rattle.hm_terms.proofs.Contexts.{read_grows}
 use Rattle.hm_terms.proofs.Walking.{take_all}
 use Rattle.hm_infer.specs.declared.run.Outcome.{Outcome}
 use Rattle.hm_infer.specs.declared.run.Outcome.TheVariants.{Holds as Went, Unsolved, Large}
-use Rattle.hm_infer.specs.declared.run.Progress.{Progress}
-use Rattle.hm_infer.specs.Running.{LowersPairs, Agrees, Fails, Outgrows, Knowing, Comes, Stops, Runs}
+use Rattle.hm_infer.specs.Running.{LowersPairs, Agrees, Knowing, Comes, Runs}
+use Rattle.hm_infer.proofs.Readings.{read_equated}
 use Rattle.hm_infer.proofs.Agreements.{agrees_grows, agrees_equated, step_fails, step_outgrows}
 
 -- the pairs of a step are lowered, whatever reads its terms
@@ -32,26 +32,29 @@ knowing_grown : (old mid new : Store) (decls : List DeclInfo) (c : Context) (bef
 knowing_grown old mid new decls c before ps ids k agrees l same =
     subst (λ (s : Store). Knowing s decls c before) (sym same) (record { read = read_grows old mid decls c k l.grows; agrees = agrees_grows old mid before agrees k.ready l.grows })
 
-pub step_holds : (old mid new : Store) (decls : List DeclInfo) (c : Context) (before : List Pair) (step : Step) (ids slice : Pairs) → IsRead old decls c → Agrees old before → LowersStep old mid decls step ids → slice ≡ ids → Equated (state mid) (state new) slice → ((u : Unknown) → new.ids u ≡ mid.ids u) → IsRead new decls c → Comes new decls c before step Went
-step_holds old mid new decls c before step ids slice k agrees lowers is e same read =
+pub step_holds : (old mid new : Store) (decls : List DeclInfo) (c : Context) (before : List Pair) (step : Step) (ids slice : Pairs) → IsRead old decls c → Agrees old before → LowersStep old mid decls step ids → slice ≡ ids → Equated (state mid) (state new) slice → ((u : Unknown) → new.ids u ≡ mid.ids u) → SameNames mid new → Comes new decls c before step Went
+step_holds old mid new decls c before step ids slice k agrees lowers is e same names =
     let l = lowers c k in
+    let equated : Equated (state mid) (state new) ids = subst (λ (ps : Pairs). Equated (state mid) (state new) ps) is e in
     record {
-      read = read;
-      agrees = agrees_equated mid new before (step_pairs c step) ids (agrees_grows old mid before agrees k.ready l.grows) l.hold (subst (λ (ps : Pairs). Equated (state mid) (state new) ps) is e) same;
+      read = read_equated mid new decls c (step_pairs c step) ids (read_grows old mid decls c k l.grows) l.hold equated same names;
+      agrees = agrees_equated mid new before (step_pairs c step) ids (agrees_grows old mid before agrees k.ready l.grows) l.hold equated same;
     }
 
 pub step_unsolved : (old mid new : Store) (decls : List DeclInfo) (c : Context) (before : List Pair) (step : Step) (ids slice : Pairs) (k : ℕ) (equations : List Equation) (span : Span) → IsRead old decls c → Agrees old before → LowersStep old mid decls step ids → slice ≡ ids → IsFirstFault mid.nodes mid.bound slice k → new ≡ mid → equations ≡ step.equations → (e : Equation) × (slice_get equations k ≡ Some e) × (span ≡ e.part) → Comes new decls c before step (Unsolved span)
 step_unsolved old mid new decls c before step ids slice k equations span read agrees lowers is fault same list part =
-    let l = lowers c read in
-    (knowing_grown old mid new decls c before (step_pairs c step) ids read agrees l same,
-     step_fails mid c before step ids k part.0 span (agrees_grows old mid before agrees read.ready l.grows) l.hold (subst (λ (ps : Pairs). IsFirstFault mid.nodes mid.bound ps k) is fault)
-         (ap (λ (es : List Equation). slice_get es k) (sym list) ∙ part.1) part.2)
+    let l = lowers c read in (
+      knowing_grown old mid new decls c before (step_pairs c step) ids read agrees l same,
+      step_fails mid c before step ids k part.0 span (agrees_grows old mid before agrees read.ready l.grows) l.hold (subst (λ (ps : Pairs). IsFirstFault mid.nodes mid.bound ps k) is fault)
+          (ap (λ (es : List Equation). slice_get es k) (sym list) ∙ part.1) part.2,
+    )
 
 pub step_too_large : (old mid new : Store) (decls : List DeclInfo) (c : Context) (before : List Pair) (step : Step) (ids slice : Pairs) → IsRead old decls c → Agrees old before → LowersStep old mid decls step ids → slice ≡ ids → IsTooLarge mid.nodes mid.bound slice → new ≡ mid → Comes new decls c before step Large
 step_too_large old mid new decls c before step ids slice read agrees lowers is large same =
-    let l = lowers c read in
-    (knowing_grown old mid new decls c before (step_pairs c step) ids read agrees l same,
-     step_outgrows mid c before step ids (agrees_grows old mid before agrees read.ready l.grows) l.hold (subst (λ (ps : Pairs). IsTooLarge mid.nodes mid.bound ps) is large))
+    let l = lowers c read in (
+      knowing_grown old mid new decls c before (step_pairs c step) ids read agrees l same,
+      step_outgrows mid c before step ids (agrees_grows old mid before agrees read.ready l.grows) l.hold (subst (λ (ps : Pairs). IsTooLarge mid.nodes mid.bound ps) is large),
+    )
 
 -- ---- why pairs were refused
 

@@ -45,11 +45,7 @@ fn part_of(equations: &[Equation], number: u32) -> Result<Span, NoMemory>
 }
 
 /// The two types that an equation makes equal.
-fn pair_of(
-    solver: &mut Solver,
-    d: &Decls,
-    equation: &Equation,
-) -> Result<(TyId, TyId), NoMemory>
+fn pair_of(solver: &mut Solver, d: &Decls, equation: &Equation) -> Result<(TyId, TyId), NoMemory>
     ensures { IfOk result (λ p. (c : Context) → IsRead (store solver.old) d.now.types c → LowersPairs (store solver.old) (store solver.new) (pair_of c equation.now ∷ []) (p ∷ [])) }
 {
     let left = solver.unknown(equation.left)?;

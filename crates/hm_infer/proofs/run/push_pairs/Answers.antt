@@ -1,5 +1,5 @@
 use Rattle.hm_terms.specs.Stores.{store}
-use Rattle.hm_infer.proofs.Lowerings.{push_none, push_next, push_all}
+use Rattle.hm_infer.proofs.Lowerings.{push_next, push_all}
 use Rattle.hm_infer.proofs.run.push_pairs.Goals as goal
 
 pub loop-equation-preserved : goal.loop-equation-preserved

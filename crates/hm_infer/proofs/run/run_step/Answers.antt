@@ -4,7 +4,7 @@ use Rattle.hm_infer.proofs.run.run_step.Goals as goal
 
 pub returns-in-Ok : goal.returns-in-Ok
 returns-in-Ok c = λ d before k agrees.
-    step_holds (store c.args.solver.now) (store c.pairs_of.new.solver) (store c.equate.new.self) c.args.d.now.types d before c.args.step.now c.in_ok-pairs.pairs.items c.as_slice.result.now k agrees c.in_ok-pairs.ensures c.as_slice.ensures.value c.in-Ok.ensures.ok c.in-Ok.ensures.ids ?
+    step_holds (store c.args.solver.now) (store c.pairs_of.new.solver) (store c.equate.new.self) c.args.d.now.types d before c.args.step.now c.in_ok-pairs.pairs.items c.as_slice.result.now k agrees c.in_ok-pairs.ensures c.as_slice.ensures.value c.in-Ok.ensures.ok c.in-Ok.ensures.ids c.in-Ok.ensures.names
 
 pub returns-in-Err-Clash : goal.returns-in-Err-Clash
 returns-in-Err-Clash c = λ d before k agrees.
