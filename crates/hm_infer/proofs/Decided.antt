@@ -1,5 +1,5 @@
 -- Which rule refuses pairs, from what the solver says of them where it knows nothing else.
-use Rattle.std.proofs.Common.{◌≡◌, ℕ, ◌<◌, ◌⊎◌, List, length, Option, Some, None, refl, sym, ap, ◌∙◌, inl, inr}
+use Rattle.std.proofs.Common.{◌≡◌, ℕ, ◌<◌, ◌⊎◌, List, length, Option, Some, None, refl, sym, ap, ◌∙◌, inl, inr, subst}
 use Rattle.ml_types.specs.declared.node.TyId.{TyId}
 use Rattle.ml_types.specs.Types.{Tree}
 use Rattle.ml_types.specs.declared.declared.DeclInfo.{DeclInfo}
@@ -9,6 +9,7 @@ use Rattle.ml_typing.specs.Typing.{Assignment, Pair}
 use Rattle.ml_typing.specs.Refusals.{IsRuleOf}
 use Rattle.hm_unify.specs.Solutions.{Pairs}
 use Rattle.hm_unify.specs.States.{IsSound, Refused}
+use Rattle.hm_unify.specs.declared.error.UnifyErr.{UnifyErr}
 use Rattle.hm_unify.specs.declared.error.UnifyErr.TheVariants.{Clash, Cycle}
 use Rattle.hm_terms.specs.Stores.{Store, state, Reading, IsReady, Grows, Forgets}
 use Rattle.hm_terms.specs.Contexts.{IsRead}
@@ -50,10 +51,14 @@ lowered old mid new decls c ps ids read forgets sound lowers after =
     let l : LowersPairs mid new ps ids = lowers r in
     is_free new ps ids (l.grows.ready r.ready) after l.hold (all_read_on mid new r.ready l.grows (all_read mid sound forgets.none))
 
-pub types_differ : (old mid new : Store) (decls : List DeclInfo) (c : Context) (ps : List Pair) (ids : Pairs) (k : ℕ) → IsRead old decls c → Forgets old mid → IsSound mid.nodes mid.bound → (IsRead mid decls c → LowersPairs mid new ps ids) → IsSound new.nodes new.bound → Refused (state new) ids (Clash k) → IsRuleOf 40 ps
-types_differ old mid new decls c ps ids k read forgets sound lowers after refused =
-    inl (refl, no_infinite new ps ids (lowered old mid new decls c ps ids read forgets sound lowers after) refused.0)
+refused_at : (s : Store) (slice ids : Pairs) (error same : UnifyErr) → slice ≡ ids → error ≡ same → Refused (state s) slice error → Refused (state s) ids same
+refused_at s slice ids error same p q refused =
+    subst (λ (is : Pairs). Refused (state s) is same) p (subst (λ (e : UnifyErr). Refused (state s) slice e) q refused)
 
-pub infinite_type : (old mid new : Store) (decls : List DeclInfo) (c : Context) (ps : List Pair) (ids : Pairs) (k : ℕ) → IsRead old decls c → Forgets old mid → IsSound mid.nodes mid.bound → (IsRead mid decls c → LowersPairs mid new ps ids) → IsSound new.nodes new.bound → Refused (state new) ids (Cycle k) → IsRuleOf 41 ps
-infinite_type old mid new decls c ps ids k read forgets sound lowers after refused =
-    inr (refl, has_infinite new ps ids (lowered old mid new decls c ps ids read forgets sound lowers after) refused.0)
+pub types_differ : (old mid new : Store) (decls : List DeclInfo) (c : Context) (ps : List Pair) (slice ids : Pairs) (error : UnifyErr) (k : ℕ) → IsRead old decls c → Forgets old mid → IsSound mid.nodes mid.bound → (IsRead mid decls c → LowersPairs mid new ps ids) → IsSound new.nodes new.bound → slice ≡ ids → error ≡ Clash k → Refused (state new) slice error → IsRuleOf 40 ps
+types_differ old mid new decls c ps slice ids error k read forgets sound lowers after same is refused =
+    inl (refl, no_infinite new ps ids (lowered old mid new decls c ps ids read forgets sound lowers after) (refused_at new slice ids error (Clash k) same is refused).0)
+
+pub infinite_type : (old mid new : Store) (decls : List DeclInfo) (c : Context) (ps : List Pair) (slice ids : Pairs) (error : UnifyErr) (k : ℕ) → IsRead old decls c → Forgets old mid → IsSound mid.nodes mid.bound → (IsRead mid decls c → LowersPairs mid new ps ids) → IsSound new.nodes new.bound → slice ≡ ids → error ≡ Cycle k → Refused (state new) slice error → IsRuleOf 41 ps
+infinite_type old mid new decls c ps slice ids error k read forgets sound lowers after same is refused =
+    inr (refl, has_infinite new ps ids (lowered old mid new decls c ps ids read forgets sound lowers after) (refused_at new slice ids error (Cycle k) same is refused).0)
