@@ -1,9 +1,8 @@
 -- Which rule refuses pairs, from what the solver says of them where it knows nothing else.
-use Rattle.std.proofs.Common.{◌≡◌, ℕ, ◌<◌, ◌⊎◌, List, length, Option, Some, None, refl, sym, ap, ◌∙◌, inl, inr, subst}
+use Rattle.std.proofs.Common.{◌≡◌, ℕ, List, Some, None, refl, sym, ◌∙◌, inl, inr, subst}
 use Rattle.ml_types.specs.declared.node.TyId.{TyId}
 use Rattle.ml_types.specs.Types.{Tree}
 use Rattle.ml_types.specs.declared.declared.DeclInfo.{DeclInfo}
-use Rattle.ml_typing.specs.declared.equation.Unknown.{Unknown}
 use Rattle.ml_typing.specs.Terms.{Context}
 use Rattle.ml_typing.specs.Typing.{Assignment, Pair}
 use Rattle.ml_typing.specs.Refusals.{IsRuleOf}

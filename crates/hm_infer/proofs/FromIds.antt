@@ -1,5 +1,5 @@
 -- Infinite types of the ids of pairs are infinite types of their shapes, where the unknowns are free.
-use Rattle.std.proofs.Common.{◌≡◌, ℕ, zero, suc, ◌<◌, ◌⊎◌, List, [], ◌∷◌, length, Option, Some, None, refl, sym, ap, ◌∙◌, inl, inr, ⊎_elim, subst, arith}
+use Rattle.std.proofs.Common.{◌≡◌, ℕ, zero, suc, ◌<◌, ◌⊎◌, List, [], ◌∷◌, length, Some, None, refl, sym, ap, ◌∙◌, inl, inr, subst, arith}
 use Rattle.std.specs.List.{slice_get}
 use Rattle.std.proofs.lemmas.Bool.{cases_eq}
 use Rattle.ml_types.specs.declared.node.TyId.{TyId}
@@ -13,12 +13,10 @@ use Rattle.hm_unify.specs.Solutions as unify
 use Rattle.hm_unify.specs.Solutions.{Bound, Pairs, node_at, Ends, IsSolution, Equates, Stands, variable, built, StandAll, none, more}
 use Rattle.hm_unify.proofs.Starts.{Ends-same, id-from}
 use Rattle.hm_terms.specs.Stores.{Store}
-use Rattle.hm_terms.specs.Shapes.{Holds}
-use Rattle.hm_terms.proofs.Growth.{stands_within}
 use Rattle.hm_infer.specs.Running.{HoldPairs}
 use Rattle.hm_infer.proofs.Trees.{tree_cases}
 use Rattle.hm_infer.proofs.Congruent.{IsCongruent, congruent}
-use Rattle.hm_infer.proofs.Names.{IsFree}
+use Rattle.hm_infer.proofs.Names.{IsFree, cons_same}
 
 -- what stands for a leaf, and what for a tree with a head
 abbrev IsLeafAt : List TyNode → Bound → TyId → ℕ → Type 0
@@ -55,9 +53,6 @@ more_at nodes bound xs ts w ws (more x ys t us one all) i =
     let first : t ≡ w = cc in
     let rest : us ≡ ws = cc in
     (x, ys, refl, subst (Stands nodes bound x) first one, subst (StandAll nodes bound ys) rest all)
-
-cons_same : (t r : Tree) (ts rs : Trees) → t ≡ r → ts ≡ rs → Cons t ts ≡ Cons r rs
-cons_same t r ts rs p q = cc
 
 -- ids that stand for one tree have one name
 module _ (nodes : List TyNode) (bound : Bound) (d : TyId → Tree) (solution : IsSolution nodes bound d) (k : IsCongruent nodes d) where
@@ -190,9 +185,10 @@ module _ (s : Store) (ps : List Pair) (ids : Pairs) (k : IsFree s ps ids) (d : T
       let y = in_id ps ids k.hold (Make g rs) j in
       let n = node_of x.0 h qs x.1 x.2 in
       let m = node_of y.0 g rs y.1 y.2 in
-      let same : d n.end ≡ d m.end = sym n.named ∙ sym (name_is (Make h qs) x.0 x.1 x.2) ∙ e ∙ name_is (Make g rs) y.0 y.1 y.2 ∙ m.named in
-      (solution.heads n.end m.end n.node m.node h g n.at m.at n.head m.head same,
-      names_are qs (parts_of n.node) n.within n.trees_are ∙ solution.parts n.end m.end n.node m.node h g n.at m.at n.head m.head same ∙ sym (names_are rs (parts_of m.node) m.within m.trees_are))
+      let same : d n.end ≡ d m.end = sym n.named ∙ sym (name_is (Make h qs) x.0 x.1 x.2) ∙ e ∙ name_is (Make g rs) y.0 y.1 y.2 ∙ m.named in (
+        solution.heads n.end m.end n.node m.node h g n.at m.at n.head m.head same,
+        names_are qs (parts_of n.node) n.within n.trees_are ∙ solution.parts n.end m.end n.node m.node h g n.at m.at n.head m.head same ∙ sym (names_are rs (parts_of m.node) m.within m.trees_are),
+      )
 
   infinite : Equates d ids → IsInfinite ps name
   infinite same = record {

@@ -1,19 +1,17 @@
 -- Infinite types of the shapes of pairs are infinite types of their ids, where the unknowns are free.
-use Rattle.std.proofs.Common.{◌≡◌, ℕ, zero, suc, ◌⊎◌, List, [], ◌∷◌, Option, Some, None, refl, sym, ap, ◌∙◌, inl, inr, ⊎_elim, subst}
+use Rattle.std.proofs.Common.{◌≡◌, ℕ, zero, suc, List, [], ◌∷◌, Some, None, refl, sym, ap, ◌∙◌, inl, inr, subst}
 use Rattle.std.specs.List.{slice_get}
 use Rattle.ml_types.specs.declared.node.TyId.{TyId}
 use Rattle.ml_types.specs.declared.node.TyNode.{TyNode}
 use Rattle.ml_types.specs.Types.{Head, ArrowHead, head_of, parts_of, Tree, Leaf, Node, Trees, Nil, Cons, trees}
-use Rattle.ml_typing.specs.declared.equation.Unknown.{Unknown}
 use Rattle.ml_typing.specs.Terms.{Shape, Is, Make, Shapes, no_shapes, shape_and}
 use Rattle.ml_typing.specs.Typing.{Assignment, Pair, tree_of, trees_of}
 use Rattle.ml_typing.specs.Refusals.{IsPart, IsPartOfAny, IsIn, names_of_all, IsInfinite, NoInfinite}
 use Rattle.hm_unify.specs.Solutions as unify
 use Rattle.hm_unify.specs.Solutions.{Pairs, node_at, IsSolution, Equates}
 use Rattle.hm_terms.specs.Stores.{Store}
-use Rattle.hm_terms.specs.Shapes.{Holds}
 use Rattle.hm_infer.specs.Running.{HoldPairs}
-use Rattle.hm_infer.proofs.Names.{IsFree, HasType, type_cases, in_known, part_in, itself, one_shape, unknown_leaf}
+use Rattle.hm_infer.proofs.Names.{IsFree, cons_same, HasType, type_cases, in_known, part_in, itself, one_shape, unknown_leaf}
 
 -- a name of a type of the pairs, and one of a tree that none of them has; they are never equal
 abbrev of_pairs : Tree → Tree
@@ -43,9 +41,6 @@ abbrev mutual
 abbrev tagged : (Shape → Tree) → Shapes → Trees
 tagged c no_shapes = Nil
 tagged c (shape_and r rs) = Cons (of_pairs (c r)) (tagged c rs)
-
-cons_same : (t r : Tree) (ts rs : Trees) → t ≡ r → ts ≡ rs → Cons t ts ≡ Cons r rs
-cons_same t r ts rs p q = cc
 
 tagged_same : (c : Shape → Tree) (qs rs : Shapes) → names_of_all c qs ≡ names_of_all c rs → tagged c qs ≡ tagged c rs
 tagged_same c no_shapes no_shapes e = refl
@@ -100,9 +95,10 @@ module _ (s : Store) (ps : List Pair) (ids : Pairs) (k : IsFree s ps ids) (c : S
   below h qs i q j = part_in q (Make h qs) ps (inr j) i
 
   both : (h g : Head) (qs rs : Shapes) → IsIn (Make h qs) ps → IsIn (Make g rs) ps → c (Make h qs) ≡ c (Make g rs) → (h ≡ g) × (all_names (trees_of k.shown qs) ≡ all_names (trees_of k.shown rs))
-  both h g qs rs i j e =
-      (inf.heads h g qs rs i j e,
-      names_in qs (below h qs i) ∙ tagged_same c qs rs (inf.parts h g qs rs i j e) ∙ sym (names_in rs (below g rs j)))
+  both h g qs rs i j e = (
+    inf.heads h g qs rs i j e,
+    names_in qs (below h qs i) ∙ tagged_same c qs rs (inf.parts h g qs rs i j e) ∙ sym (names_in rs (below g rs j)),
+  )
 
   picked_same : (h g : Head) (ts rs : Trees) → (x : HasType k.shown ps (Node h ts)) (y : HasType k.shown ps (Node g rs)) → picked k.shown ps c (Node h ts) x (of_node (Node h (all_names ts))) ≡ picked k.shown ps c (Node g rs) y (of_node (Node g (all_names rs))) → (h ≡ g) × (all_names ts ≡ all_names rs)
   picked_same h g ts rs (inl q) (inl r) e =

@@ -1,18 +1,20 @@
 -- Solvers in which the unknowns are free, and what the types of their ids say of the shapes of pairs: which
 -- shape has a tree, and that it is one alone.
-use Rattle.std.proofs.Common.{◌≡◌, ℕ, ◌<◌, ◌⊎◌, List, [], ◌∷◌, length, Option, Some, None, refl, sym, ap, ◌∙◌, inl, inr, ⊎_elim, subst}
+use Rattle.std.proofs.Common.{◌≡◌, ℕ, ◌<◌, ◌⊎◌, List, [], ◌∷◌, length, Some, refl, sym, ap, ◌∙◌, inl, inr, ⊎_elim, subst}
 use Rattle.ml_types.specs.declared.node.TyId.{TyId}
-use Rattle.ml_types.specs.Types.{Head, Tree, Leaf, Node, Trees}
+use Rattle.ml_types.specs.Types.{Head, Tree, Leaf, Node, Trees, Cons}
 use Rattle.ml_typing.specs.declared.equation.Unknown.{Unknown}
 use Rattle.ml_typing.specs.Terms.{Shape, Is, Make, Shapes, no_shapes, shape_and}
 use Rattle.ml_typing.specs.Typing.{Assignment, Pair, tree_of, trees_of, at_types, StandsIn, StandsInAny}
 use Rattle.ml_typing.specs.Refusals.{IsPart, IsPartOfAny, IsIn}
 use Rattle.hm_unify.specs.Solutions.{Pairs, Stands, Solves}
 use Rattle.hm_terms.specs.Stores.{Store, Reading, IsReady}
-use Rattle.hm_terms.specs.Shapes.{Holds}
 use Rattle.hm_terms.proofs.Holding.{unknown_cases}
 use Rattle.hm_infer.specs.Running.{HoldPairs}
 use Rattle.hm_infer.proofs.Trees.{tree_cases}
+
+pub cons_same : (t r : Tree) (ts rs : Trees) → t ≡ r → ts ≡ rs → Cons t ts ≡ Cons r rs
+cons_same t r ts rs p q = cc
 
 -- ---- solvers with free unknowns
 

@@ -3,7 +3,6 @@ use Rattle.std.proofs.Common.{◌≡◌, ℕ, zero, suc, ◌+◌, ◌<◌, ◌�
 use Rattle.std.specs.List.{slice_get}
 use Rattle.std.proofs.lemmas.List.{append-nil}
 use Rattle.std.proofs.lemmas.Option.{slice_get_read}
-use Rattle.ml_types.specs.declared.node.TyId.{TyId}
 use Rattle.ml_types.specs.declared.declared.DeclInfo.{DeclInfo}
 use Rattle.ml_typing.specs.declared.equation.Equation.{Equation}
 use Rattle.ml_typing.specs.declared.equation.Step.{Step}
@@ -35,7 +34,7 @@ pub all_next : (first old new : Store) (decls : List DeclInfo) (c : Context) (st
 all_next first old new decls c steps n step slice ids more lt is same k l pushes =
     let next = pushes c (pairs c (take n steps)) (read_grows first old decls c k l.grows) l.hold in
     let grown : pairs c (take (n + 1) steps) ≡ pairs c (take n steps) ++ map (pair_of c) slice =
-        pairs_next c steps n step (slice_get_read steps (length steps) n step refl lt is) ∙ ap (λ (es : List Equation). pairs c (take n steps) ++ map (pair_of c) es) (sym same) in
+    pairs_next c steps n step (slice_get_read steps (length steps) n step refl lt is) ∙ ap (λ (es : List Equation). pairs c (take n steps) ++ map (pair_of c) es) (sym same) in
     record {
       grows = grows_then first old new l.grows next.grows;
       hold = subst (λ (ps : List Pair). HoldPairs new ps more) (sym grown) next.hold;
