@@ -2,12 +2,19 @@ mod Lists
 mod Tabling
 mod Faults
 mod Programs
+pub mod Trees
+pub mod Congruent
+pub mod Names
+pub mod FromShapes
+pub mod FromIds
+pub mod StepPairs
+pub mod Decided
 pub mod Stable
 pub mod Apart
 pub mod Readings
+pub mod Shown
 pub mod Agreements
 pub mod Lowerings
 pub mod StepRuns
-pub mod Shown
 pub mod Larges
 pub mod Narrowing
