@@ -1,22 +1,27 @@
 -- Why an item has no types, from what came of its steps.
-use Rattle.std.proofs.Common.{◌≡◌, ℕ, ◌+◌, ◌<◌, ◌≤◌, List, [], ◌∷◌, ◌++◌, length, take, Some, refl, sym, ap, ◌∙◌, subst, inl, inr, arith}
+use Rattle.std.proofs.Common.{◌≡◌, Bool, true, false, None, ℕ, ◌+◌, ◌<◌, ◌≤◌, List, [], ◌∷◌, ◌++◌, length, take, Some, refl, sym, ap, ◌∙◌, subst, inl, inr, arith}
 use Rattle.std.specs.List.{slice_get}
+use Rattle.std.specs.Bool.{MatchBool}
 use Rattle.std.proofs.lemmas.Option.{slice_get_within}
 use Rattle.oxml_base.specs.declared.span.Span.{Span}
 use Rattle.oxml_base.specs.Rules.{rule_number}
 use Rattle.ml_types.specs.declared.declared.DeclInfo.{DeclInfo}
+use Rattle.ml_types.specs.Types.{Leaf}
 use Rattle.ml_typing.specs.declared.equation.Step.{Step}
 use Rattle.ml_typing.specs.Terms.{Context}
 use Rattle.ml_typing.specs.Typing.{Assignment, Pair, Satisfies, pairs, step_pairs}
 use Rattle.ml_typing.specs.Refusals.{Fits, IsSmall, IsTypeOf, HasSolution, IsRuleOf, IsUnsolved, IsTooLarge}
 use Rattle.hm_terms.specs.Stores.{Store}
+use Rattle.hm_terms.specs.Contexts.{IsRead}
+use Rattle.hm_unify.specs.States.{IsSound}
 use Rattle.hm_infer.specs.declared.error.InferErr.{InferErr}
 use Rattle.hm_infer.specs.declared.error.InferErr.TheVariants.{Refused, Limit, NoMemory}
 use Rattle.hm_infer.specs.declared.run.Outcome.TheVariants.{Holds, Unsolved, Large}
 use Rattle.hm_infer.specs.declared.run.Progress.{Progress}
 use Rattle.hm_infer.specs.Running.{IsShown, Fails, Outgrows, Knowing, Stops, Runs}
-use Rattle.hm_infer.specs.Sizes.{MakesLarge, IsFirstLarge}
+use Rattle.hm_infer.specs.Sizes.{HasLarge, MakesLarge, IsFirstLarge}
 use Rattle.hm_infer.specs.Answers.{Checked, IsItemFault, IsLimitAt, IsRefusedAt}
+use Rattle.hm_infer.proofs.Narrowing.{shown_satisfies, makes_large}
 use Rattle.hm_infer.proofs.Lists.{take_take, length_take, at_next, pairs_next, take_whole}
 
 -- the first of the steps that were run which makes a type too large
@@ -95,3 +100,32 @@ checked_all s d c steps done n same k all small = record {
   where
     whole : take n steps ≡ steps
     whole = take_whole steps n (omega (arith, all))
+
+-- no step makes no type too large
+fits_none : (c : Context) (steps : List Step) → Fits c (take 0 steps)
+fits_none c steps = ((λ v. Leaf 0), tt, λ v t. absurd (let q : None ≡ Some t.1 = t.2 in cc))
+
+pub fits_done : (s : Store) (d : List DeclInfo) (c : Context) (steps done : List Step) (p : Progress) (large : Bool) → large ≡ false → IsSound s.nodes s.bound → done ≡ take p.done steps → Runs s d c steps p → ((a : Assignment) → IsShown s a → MatchBool large (HasLarge s done a) (IsSmall done a)) → Fits c (take p.done steps)
+fits_done s d c steps done p large e sound same r looked =
+    let a = shown_satisfies s d c (pairs c (take p.done steps)) r.knows sound in
+    (a.0, a.2, subst (λ (ss : List Step). IsSmall ss a.0) same (subst (λ (b : Bool). MatchBool b (HasLarge s done a.0) (IsSmall done a.0)) e (looked a.0 a.1)))
+
+-- the arms of what became of the steps
+pub judged_large : (s : Store) (d : List DeclInfo) (c : Context) (steps done : List Step) (p : Progress) (large : Bool) (k : ℕ) (e : InferErr) → large ≡ true → IsSound s.nodes s.bound → done ≡ take p.done steps → ((a : Assignment) → IsShown s a → MatchBool large (HasLarge s done a) (IsSmall done a)) → ((c : Context) → IsRead s d c → MakesLarge c done → IsFirstLarge c done k) → IsLimitAt steps k e → Runs s d c steps p → IsItemFault c steps e
+judged_large s d c steps done p large k e is sound same looked first l r =
+    large_fault c steps done p.done k e same (first c r.knows.read (makes_large s d c done sound
+    (λ a h. subst (λ (b : Bool). MatchBool b (HasLarge s done a) (IsSmall done a)) is (looked a h))
+    (subst (λ (ss : List Step). Knowing s d c (pairs c ss)) (sym same) r.knows))) l
+
+pub judged_outgrown : (s : Store) (d : List DeclInfo) (c : Context) (steps done : List Step) (p : Progress) (large : Bool) (e : InferErr) → large ≡ false → p.outcome ≡ Large → IsSound s.nodes s.bound → done ≡ take p.done steps → ((a : Assignment) → IsShown s a → MatchBool large (HasLarge s done a) (IsSmall done a)) → IsLimitAt steps p.done e → Runs s d c steps p → IsItemFault c steps e
+judged_outgrown s d c steps done p large e is came sound same looked l r =
+    outgrown_fault c steps p.done e (fits_done s d c steps done p large is sound same r looked) (subst (Stops c steps p.done) came r.stops) l
+
+pub judged_unsolved : (s : Store) (d : List DeclInfo) (c : Context) (steps done : List Step) (p : Progress) (large : Bool) (span : Span) (e : InferErr) → large ≡ false → p.outcome ≡ Unsolved span → IsSound s.nodes s.bound → done ≡ take p.done steps → ((a : Assignment) → IsShown s a → MatchBool large (HasLarge s done a) (IsSmall done a)) → ((c : Context) → IsRead s d c → IsRefusedAt c steps p.done span e) → Runs s d c steps p → IsItemFault c steps e
+judged_unsolved s d c steps done p large span e is came sound same looked refused r =
+    unsolved_fault c steps p.done span e (fits_done s d c steps done p large is sound same r looked) (subst (Stops c steps p.done) came r.stops) (refused c r.knows.read)
+
+pub judged_held : (s : Store) (d : List DeclInfo) (c : Context) (steps done : List Step) (p : Progress) (large : Bool) → large ≡ false → p.outcome ≡ Holds → done ≡ take p.done steps → ((a : Assignment) → IsShown s a → MatchBool large (HasLarge s done a) (IsSmall done a)) → Runs s d c steps p → Checked s d c steps
+judged_held s d c steps done p large is came same looked r =
+    checked_all s d c steps done p.done same r.knows (subst (Stops c steps p.done) came r.stops)
+    (λ a h. subst (λ (b : Bool). MatchBool b (HasLarge s done a) (IsSmall done a)) is (looked a h))

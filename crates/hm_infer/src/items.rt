@@ -1,5 +1,6 @@
 //! One item: its steps, its comparisons, and what it leaves for the items behind it.
-ghost use Rattle.std.specs.Prelude.{◌≡◌, ◌++◌, ◌∷◌, List, [], take, OnOk, IfOk, IfErr};
+ghost use Rattle.std.specs.Prelude.{◌≡◌, ◌++◌, ◌∷◌, ℕ, List, [], None, nat_eq, take, OnOk, IfOk, IfErr};
+ghost use Rattle.std.specs.HashMap.{get};
 ghost use Rattle.ml_typing.specs.Terms.{Context};
 ghost use Rattle.ml_typing.specs.Typing.{Assignment, ItemSteps, behind_all, steps_of_item};
 ghost use Rattle.hm_terms.specs.Stores.{store};
@@ -22,6 +23,7 @@ use ml_types::{Decls, TyId};
 use ml_typing::Step;
 use oxml_base::{Limit, NoMemory, Refusal, Span};
 use sqlite_items::at;
+use std::alloc::Global;
 use std::collections::HashMap;
 
 /// What was found of the items so far.
@@ -31,6 +33,19 @@ pub struct Found {
     pub nodes: HashMap<u32, TyId>,
     /// The span of the first comparison at a type that has none.
     pub bad: Option<Span>,
+}
+
+impl Found {
+    /// Nothing was found.
+    pub fn new(alloc: Global) -> Found
+        ensures nodes { (n : ℕ) → get nat_eq result.nodes n ≡ None }
+        ensures bad { result.bad ≡ None }
+    {
+        Found {
+            nodes: HashMap::new(alloc),
+            bad: None,
+        }
+    }
 }
 
 /// Runs the steps of an item, each of which must have a solution and make no type too large.
@@ -44,6 +59,7 @@ fn check_item(solver: &mut Solver, d: &Decls, steps: &[Step]) -> Result<(), Infe
 }
 
 /// What became of the steps of an item, of which so many hold.
+#[tactic(auto, using(crate::proofs::Faults::judged_held))]
 fn judge(
     solver: &mut Solver,
     d: &Decls,
