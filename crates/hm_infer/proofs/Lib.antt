@@ -1,3 +1,4 @@
 pub mod Stable
 pub mod Apart
 pub mod Readings
+pub mod Starting
