@@ -4,20 +4,19 @@ use Rattle.std.proofs.Common.{◌≡◌, ℕ, zero, suc, ◌<◌, List, [], ◌�
 use Rattle.std.specs.List.{slice_get}
 use Rattle.std.specs.Option.{option_and_then}
 use Rattle.std.proofs.lemmas.List.{append-nil}
-use Rattle.std.proofs.lemmas.Option.{slice_get_within, slice_get_cases}
+use Rattle.std.proofs.lemmas.Option.{slice_get_cases}
 use Rattle.ml_types.specs.declared.node.TyId.{TyId}
 use Rattle.ml_types.specs.declared.node.TyNode.{TyNode}
 use Rattle.ml_types.specs.declared.node.TyNode.TheVariants.{Var, Con, Tuple, Arrow}
-use Rattle.ml_types.specs.Types.{Head, ConHead, TupleHead, ArrowHead, head_of, parts_of, Tree, Leaf, Node, Trees, Nil, Cons, trees}
+use Rattle.ml_types.specs.Types.{Head, ConHead, TupleHead, ArrowHead, head_of, parts_of, Tree, Leaf, Nil, Cons, trees}
 use Rattle.ml_types.specs.declared.declared.DeclInfo.{DeclInfo}
 use Rattle.ml_tree.specs.declared.reference.Op.{Op}
 use Rattle.ml_tree.specs.declared.reference.Op.TheVariants.{PrintString, PrintInt, PrintChar, PrerrString, StringOfInt, IntOfChar, CharOfInt, StringLength, StringGet, Exit, Failwith}
-use Rattle.ml_typing.specs.declared.equation.Unknown.{Unknown}
 use Rattle.ml_typing.specs.Typing.{plain_type, arrow_type, operation_type, Reads, first_context}
-use Rattle.hm_unify.specs.Solutions.{Bound, node_at, number_at, link, Ends, here, Stands, variable, built, StandAll, none, more}
+use Rattle.hm_unify.specs.Solutions.{Bound, node_at, number_at, link, here, Stands, variable, built, StandAll, none, more}
 use Rattle.hm_unify.specs.States.{IsTable, IsNew}
 use Rattle.hm_unify.proofs.Ends.{link-number}
-use Rattle.hm_terms.specs.Stores.{Store, state, AddsNode, AddsOperation, IsClosed, IsReady, Forgets}
+use Rattle.hm_terms.specs.Stores.{Store, state, AddsNode, AddsOperation, IsClosed, Forgets}
 use Rattle.hm_terms.specs.Contexts.{Shows, ShowsAny, op_place, IsRead}
 use Rattle.hm_terms.proofs.Growth.{Longer, stands_grow, stands_within}
 use Rattle.hm_terms.proofs.Pushes.{closed_push}
@@ -159,13 +158,16 @@ basic_function first s new from to ws b h a k =
 
 -- the basic types, one after the other
 pub basic_stand : (s0 s1 s2 s3 s4 s5 : Store) (b : Basic) → IsFirst s0 → AddsNode s0 s1 (Con 0 []) b.int → AddsNode s1 s2 (Con 1 []) b.char → AddsNode s2 s3 (Con 2 []) b.string → AddsNode s3 s4 (Con 4 []) b.unit → AddsNode s4 s5 (Var 0) b.any → HaveTypes s0 s5 [] × AreBasic s5 b
-basic_stand s0 s1 s2 s3 s4 s5 b first a1 a2 a3 a4 a5 = (h5, record {
-  int = stands_node s4 s5 (Var 0) b.any h4.closed a5 b.int (plain_type 0) (stands_node s3 s4 (Con 4 []) b.unit h3.closed a4 b.int (plain_type 0) (stands_node s2 s3 (Con 2 []) b.string h2.closed a3 b.int (plain_type 0) (stands_node s1 s2 (Con 1 []) b.char h1.closed a2 b.int (plain_type 0) (stands_plain s0 s1 0 b.int h1.free a1))));
-  char = stands_node s4 s5 (Var 0) b.any h4.closed a5 b.char (plain_type 1) (stands_node s3 s4 (Con 4 []) b.unit h3.closed a4 b.char (plain_type 1) (stands_node s2 s3 (Con 2 []) b.string h2.closed a3 b.char (plain_type 1) (stands_plain s1 s2 1 b.char h2.free a2)));
-  string = stands_node s4 s5 (Var 0) b.any h4.closed a5 b.string (plain_type 2) (stands_node s3 s4 (Con 4 []) b.unit h3.closed a4 b.string (plain_type 2) (stands_plain s2 s3 2 b.string h3.free a3));
-  unit = stands_node s4 s5 (Var 0) b.any h4.closed a5 b.unit (plain_type 4) (stands_plain s3 s4 4 b.unit h4.free a4);
-  any = stands_any s4 s5 b.any h5.free a5;
-})
+basic_stand s0 s1 s2 s3 s4 s5 b first a1 a2 a3 a4 a5 = (
+  h5,
+  record {
+    int = stands_node s4 s5 (Var 0) b.any h4.closed a5 b.int (plain_type 0) (stands_node s3 s4 (Con 4 []) b.unit h3.closed a4 b.int (plain_type 0) (stands_node s2 s3 (Con 2 []) b.string h2.closed a3 b.int (plain_type 0) (stands_node s1 s2 (Con 1 []) b.char h1.closed a2 b.int (plain_type 0) (stands_plain s0 s1 0 b.int h1.free a1))));
+    char = stands_node s4 s5 (Var 0) b.any h4.closed a5 b.char (plain_type 1) (stands_node s3 s4 (Con 4 []) b.unit h3.closed a4 b.char (plain_type 1) (stands_node s2 s3 (Con 2 []) b.string h2.closed a3 b.char (plain_type 1) (stands_plain s1 s2 1 b.char h2.free a2)));
+    string = stands_node s4 s5 (Var 0) b.any h4.closed a5 b.string (plain_type 2) (stands_node s3 s4 (Con 4 []) b.unit h3.closed a4 b.string (plain_type 2) (stands_plain s2 s3 2 b.string h3.free a3));
+    unit = stands_node s4 s5 (Var 0) b.any h4.closed a5 b.unit (plain_type 4) (stands_plain s3 s4 4 b.unit h4.free a4);
+    any = stands_any s4 s5 b.any h5.free a5;
+  },
+)
   where
     h1 : HaveTypes s0 s1 []
     h1 = have_node s0 s0 s1 (Con 0 []) b.int [] (have_none s0 first) a1

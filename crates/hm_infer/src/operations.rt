@@ -29,7 +29,6 @@ struct Basic {
 }
 
 /// A solver before the first item, over the declared types.
-#[tactic(auto, using(crate::proofs::Starting::first_read))]
 pub fn first_solver(alloc: Global, table: TyTable) -> Result<Solver, NoMemory>
     requires { IsTable table.nodes }
     ensures read { IfOk result (λ s. (decls : List DeclInfo) (declared : TyIdValue → Tree) → AreWithin (length table.nodes) decls → Reads table.nodes declared → IsRead (store s) decls (first_context decls declared)) }

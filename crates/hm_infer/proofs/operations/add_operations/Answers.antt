@@ -1,6 +1,6 @@
+use Rattle.std.proofs.Common.{[]}
 use Rattle.std.proofs.lemmas.Result.{on_ok_weaker}
-use Rattle.ml_types.specs.Types.{Leaf}
-use Rattle.ml_typing.specs.Typing.{plain_type, arrow_type}
+use Rattle.ml_typing.specs.Typing.{plain_type}
 use Rattle.hm_terms.specs.Stores.{store}
 use Rattle.hm_infer.specs.Starts.{AddsFunction, IsFirst, HaveTypes, operation_types}
 use Rattle.hm_infer.proofs.Starting.{Made, made_function, made_node, stands_arrow}
