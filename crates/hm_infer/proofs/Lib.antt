@@ -18,3 +18,4 @@ pub mod Lowerings
 pub mod StepRuns
 pub mod Larges
 pub mod Narrowing
+pub mod Starting

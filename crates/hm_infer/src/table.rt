@@ -1,6 +1,8 @@
 //! The types that were found, as a table.
-ghost use Rattle.std.specs.Prelude.{ℕ, ◌+◌, IfOk, OnOk, nat_eq, Option};
+ghost use Rattle.std.specs.Prelude.{◌≡◌, ◌+◌, ◌<◌, ◌≤◌, ℕ, IfOk, OnOk, nat_eq, Option};
 ghost use Rattle.std.specs.HashMap.{get};
+ghost use Rattle.ml_types.specs.declared.node.TyId.{TyId as TyIdValue};
+ghost use Rattle.ml_types.specs.declared.node.TyNode.TheVariants.{Arrow};
 ghost use Rattle.ml_types.specs.Types.{Tree};
 ghost use Rattle.hm_unify.specs.Solutions.{Stands};
 ghost use Rattle.hm_terms.specs.Stores.{store};
@@ -18,14 +20,26 @@ use std::collections::HashMap;
 pub fn slots_of(table: &TyTable) -> Result<u32, NoMemory>
     ensures { IfOk result (AreSlotsBelow table.now.nodes) }
 {
+    let nodes = table.nodes.as_slice();
     let mut slots = 0u32;
-    for node in table.nodes.as_slice() {
-        if let TyNode::Arrow { slot, .. } = node {
-            let behind = slot.checked_add(1).ok_or(NoMemory)?;
-            slots = slots.max(behind);
-        }
+    for at in 0..nodes.len() {
+        slots = slots_behind(slots, &nodes[at])?;
     }
     Ok(slots)
+}
+
+/// The first slot above that of a node, if it is an arrow, and not below `slots`.
+fn slots_behind(slots: u32, node: &TyNode) -> Result<u32, NoMemory>
+    ensures most { IfOk result (λ s. slots ≤ s) }
+    ensures above { IfOk result (λ s. (slot : ℕ) (from to : TyIdValue) → node.now ≡ Arrow slot from to → slot < s) }
+{
+    match node {
+        TyNode::Arrow { slot, .. } => {
+            let behind = slot.checked_add(1).ok_or(NoMemory)?;
+            Ok(slots.max(behind))
+        }
+        _ => Ok(slots),
+    }
 }
 
 /// The types that were found: those of the nodes below `count`, and the schemes of the names among them.
