@@ -1,7 +1,7 @@
 -- The walk of a type that finds its variables in the order of first use.
-use Rattle.std.proofs.Common.{◌≡◌, ℕ, Bool, true, false, cond, nat_eq, List, [], ◌∷◌, ◌++◌, reverse, Option, Some, None, refl, sym, ap, ◌∙◌, subst}
+use Rattle.std.proofs.Common.{◌≡◌, ℕ, ◌+◌, ◌-◌, ◌<◌, Bool, true, false, cond, nat_eq, List, [], ◌∷◌, ◌++◌, length, take, reverse, get_or, Option, Some, None, refl, sym, ap, ◌∙◌, subst, arith}
 use Rattle.std.specs.Option.{is_some}
-use Rattle.std.proofs.lemmas.List.{reverse-append, reverse-reverse, append-nil}
+use Rattle.std.proofs.lemmas.List.{reverse-append, reverse-reverse, append-nil, append_assoc, take_more, length-reverse, get_or-reverse}
 use Rattle.ml_types.specs.declared.node.TyId.{TyId}
 use Rattle.ml_types.specs.declared.node.TyNode.{TyNode}
 use Rattle.ml_types.specs.declared.node.TyNode.TheVariants.{Var, Con, Tuple, Arrow}
@@ -36,7 +36,7 @@ some_by false o = refl
 pub note_new : (seen later : ℕ → Option Bool) (vars longer : List ℕ) (k : ℕ) → is_some (seen k) ≡ false → ((q : ℕ) → later q ≡ cond (nat_eq k q) (Some true) (seen q)) → longer ≡ vars ++ k ∷ [] → HasSeen seen vars → (longer ≡ with_number vars k) × HasSeen later longer
 note_new seen later vars longer k absent update pushed h = (
   pushed ∙ sym (ap (λ b. cond b vars (vars ++ k ∷ [])) (sym (h k) ∙ absent)),
-  λ n. ap is_some (update n) ∙ some_by (nat_eq k n) (seen n) ∙ ap (cond (nat_eq k n) true) (h n) ∙ sym (is_in_last vars k n) ∙ ap (λ vs. is_in vs n) (sym pushed)
+  λ n. ap is_some (update n) ∙ some_by (nat_eq k n) (seen n) ∙ ap (cond (nat_eq k n) true) (h n) ∙ sym (is_in_last vars k n) ∙ ap (λ vs. is_in vs n) (sym pushed),
 )
 
 -- ---- a node
@@ -69,14 +69,14 @@ stands_variable nodes bound x e n w (built y f m j ts ends at head all) h p =
     absurd cc
 
 stands_built : (nodes : List TyNode) (bound : Bound) (x e : TyId) (m : TyNode) (h : Head) (w : Tree) → Stands nodes bound x w → Ends nodes bound x e → node_at nodes e ≡ Some m → head_of m ≡ Some h → (ts : Trees) × StandAll nodes bound (parts_of m) ts × (w ≡ Node h ts)
-stands_built nodes bound x e m h w (variable y f k ends at) there p q =
-    let same : f ≡ e = Ends-unique nodes bound y f e ends there in
-    let both : Some (Var k) ≡ Some m = sym at ∙ ap (node_at nodes) same ∙ p in
-    let node : Var k ≡ m = cc in
+stands_built nodes bound x e m h w (variable y f i ends at) other p q =
+    let same : f ≡ e = Ends-unique nodes bound y f e ends other in
+    let both : Some (Var i) ≡ Some m = sym at ∙ ap (node_at nodes) same ∙ p in
+    let node : Var i ≡ m = cc in
     let no : None ≡ Some h = ap head_of node ∙ q in
     absurd cc
-stands_built nodes bound x e m h w (built y f k j ts ends at head all) there p q =
-    let same : f ≡ e = Ends-unique nodes bound y f e ends there in
+stands_built nodes bound x e m h w (built y f k j ts ends at head all) other p q =
+    let same : f ≡ e = Ends-unique nodes bound y f e ends other in
     let both : Some k ≡ Some m = sym at ∙ ap (node_at nodes) same ∙ p in
     let node : k ≡ m = cc in
     let heads : Some j ≡ Some h = sym head ∙ ap head_of node ∙ q in
@@ -114,8 +114,12 @@ uses_followed seen (Cons t ts) us = uses_followed (uses_behind seen t) ts us
 abbrev pub IsWalking : Store → TyId → List ℕ → List TyId → Type 0
 IsWalking s root vars stack = (w : Tree) → Stands s.nodes s.bound root w → (ts : Trees) × StandAll s.nodes s.bound (reverse stack) ts × (all_uses_behind vars ts ≡ variables w)
 
-pub walking_first : (s : Store) (root : TyId) → IsWalking s root [] (root ∷ [])
-walking_first s root = λ w k. (Cons w Nil, more root [] w Nil k none, refl)
+pub walking_first : (s : Store) (root : TyId) (vars : List ℕ) (stack : List TyId) → vars ≡ [] → stack ≡ root ∷ [] → IsWalking s root vars stack
+walking_first s root vars stack e f = λ w k. (
+  Cons w Nil,
+  subst (λ xs. StandAll s.nodes s.bound (reverse xs) (Cons w Nil)) (sym f) (more root [] w Nil k none),
+  ap (λ vs. uses_behind vs w) e,
+)
 
 pub walking_last : (s : Store) (root : TyId) (vars : List ℕ) (stack : List TyId) → IsWalking s root vars stack → stack ≡ [] → (w : Tree) → Stands s.nodes s.bound root w → vars ≡ variables w
 walking_last s root vars stack k empty w stands =
@@ -142,11 +146,10 @@ next_variable s root vars id rest n w head k =
 next_parts : (s : Store) (root : TyId) (vars : List ℕ) (id : TyId) (rest : List TyId) (node : TyNode) (h : Head) (w : Tree) → head_of node ≡ Some h → IsHead (state s) id node → Left s vars id rest w → (ts : Trees) × StandAll s.nodes s.bound (reverse (rest ++ reverse (parts_of node))) ts × (all_uses_behind vars ts ≡ variables w)
 next_parts s root vars id rest node h w has head k =
     let made = stands_built s.nodes s.bound id head.0 node h k.0 k.2 head.1 head.2 has in
-    let order : reverse (rest ++ reverse (parts_of node)) ≡ parts_of node ++ reverse rest = reverse-append rest (reverse (parts_of node)) ∙ ap (λ ps. ps ++ reverse rest) (reverse-reverse (parts_of node)) in
-    (
+    let order : reverse (rest ++ reverse (parts_of node)) ≡ parts_of node ++ reverse rest = reverse-append rest (reverse (parts_of node)) ∙ ap (λ ps. ps ++ reverse rest) (reverse-reverse (parts_of node)) in (
       followed made.0 k.1,
       subst (λ xs. StandAll s.nodes s.bound xs (followed made.0 k.1)) (sym order) (stand_followed s.nodes s.bound (parts_of node) (reverse rest) made.0 k.1 made.1 k.3),
-      uses_followed vars made.0 k.1 ∙ ap (λ t. all_uses_behind (uses_behind vars t) k.1) (sym made.2) ∙ k.4
+      uses_followed vars made.0 k.1 ∙ ap (λ t. all_uses_behind (uses_behind vars t) k.1) (sym made.2) ∙ k.4,
     )
 
 next_by : (s : Store) (root : TyId) (vars : List ℕ) (id : TyId) (rest : List TyId) (node : TyNode) (w : Tree) → IsHead (state s) id node → Left s vars id rest w → (ts : Trees) × StandAll s.nodes s.bound (reverse (rest ++ reverse (parts_of node))) ts × (all_uses_behind (with_own vars node) ts ≡ variables w)
@@ -161,3 +164,12 @@ pub walking_next : (s : Store) (root : TyId) (vars longer : List ℕ) (stack res
 walking_next s root vars longer stack rest deeper id node k popped head v = λ w stands.
     let next = next_by s root vars id rest node w head (left_of s root vars stack rest id k popped w stands) in
     (next.0, subst (λ xs. StandAll s.nodes s.bound (reverse xs) next.0) (sym v.next) next.1, ap (λ vs. all_uses_behind vs next.0) v.used ∙ next.2)
+
+-- ---- pushing parts, the last first
+
+pub pushed_next : (parts : List TyId) (stack old new : List TyId) (done : ℕ) (d : TyId) → done < length parts → old ≡ stack ++ take done (reverse parts) → new ≡ old ++ get_or parts (length parts - 1 - done) d ∷ [] → new ≡ stack ++ take (done + 1) (reverse parts)
+pushed_next parts stack old new done d lt before pushed =
+    let part = get_or parts (length parts - 1 - done) d in
+    let within : done < length (reverse parts) = omega (arith, length-reverse parts, lt) in
+    let longer : take (done + 1) (reverse parts) ≡ take done (reverse parts) ++ part ∷ [] = take_more (reverse parts) done d within ∙ ap (λ x. take done (reverse parts) ++ x ∷ []) (get_or-reverse parts done d lt) in
+    pushed ∙ ap (λ xs. xs ++ part ∷ []) before ∙ append_assoc stack (take done (reverse parts)) (part ∷ []) ∙ ap (λ xs. stack ++ xs) (sym longer)

@@ -93,7 +93,7 @@ fn visit(
 }
 
 /// A variable is among those that came up, once.
-#[tactic(auto, using(crate::proofs::Uses::note_old, crate::proofs::Uses::note_new))]
+#[tactic(auto, using(crate::proofs::Uses::note_old))]
 fn note(vars: &mut Items<u32>, seen: &mut HashMap<u32, bool>, number: u32) -> Result<(), NoMemory>
     ensures { OnOk result (HasSeen (get nat_eq seen.old) vars.old → (vars.new ≡ with_number vars.old number) × HasSeen (get nat_eq seen.new) vars.new) }
 {
