@@ -19,3 +19,4 @@ pub mod StepRuns
 pub mod Larges
 pub mod Narrowing
 pub mod Starting
+pub mod Uses

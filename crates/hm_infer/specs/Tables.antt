@@ -1,10 +1,10 @@
 -- The types of a program as a table.
-use Rattle.std.specs.Prelude.{◌≡◌, ℕ, ◌+◌, ◌<◌, Bool, true, cond, nat_eq, false, List, [], ◌∷◌, ◌++◌, length, Option, Some, None, slice_get}
+use Rattle.std.specs.Prelude.{◌≡◌, ℕ, ◌+◌, ◌<◌, Bool, true, cond, nat_eq, false, List, [], ◌∷◌, ◌++◌, length, reverse, Option, Some, None, is_some, slice_get}
 use Rattle.ml_types.specs.declared.node.TyId.{TyId}
 use Rattle.ml_types.specs.declared.node.TyNode.{TyNode}
-use Rattle.ml_types.specs.declared.node.TyNode.TheVariants.{Arrow}
+use Rattle.ml_types.specs.declared.node.TyNode.TheVariants.{Var, Con, Tuple, Arrow}
 use Rattle.ml_types.specs.declared.node.Scheme.{Scheme}
-use Rattle.ml_types.specs.Types.{Tree, Leaf, Node, Trees, Nil, Cons}
+use Rattle.ml_types.specs.Types.{parts_of, Tree, Leaf, Node, Trees, Nil, Cons}
 use Rattle.ml_typing.specs.declared.typed.Typed.{Typed}
 use Rattle.hm_unify.specs.Solutions.{Bound, Stands}
 
@@ -28,6 +28,23 @@ abbrev mutual
 
 abbrev pub variables : Tree → List ℕ
 variables t = uses_behind [] t
+
+-- the numbers of these variables are known to have come up, and no others
+abbrev pub HasSeen : (ℕ → Option Bool) → List ℕ → Type 0
+HasSeen seen vars = (n : ℕ) → is_some (seen n) ≡ is_in vars n
+
+-- the variables behind a node, its parts aside
+abbrev pub with_own : List ℕ → TyNode → List ℕ
+with_own vars (Var n) = with_number vars n
+with_own vars (Con d args) = vars
+with_own vars (Tuple parts) = vars
+with_own vars (Arrow slot from to) = vars
+
+-- a step of the walk of a type: the node's own variable is used, and its parts come next, the first of
+-- them on top
+pub record Visits (node : TyNode) (vars more : List ℕ) (stack deeper : List TyId) : Type 0 where
+  pub used : more ≡ with_own vars node
+  pub next : deeper ≡ stack ++ reverse (parts_of node)
 
 -- the slots of a table's arrows lie below a number
 abbrev pub AreSlotsBelow : List TyNode → ℕ → Type 0

@@ -1,5 +1,5 @@
 //! The types that were found, as a table.
-ghost use Rattle.std.specs.Prelude.{◌≡◌, ◌+◌, ◌<◌, ◌≤◌, ℕ, IfOk, OnOk, nat_eq, Option};
+ghost use Rattle.std.specs.Prelude.{◌≡◌, ◌+◌, ◌<◌, ◌≤◌, ℕ, IfOk, OnOk, nat_eq, Option, [], ◌∷◌, ◌++◌, reverse};
 ghost use Rattle.std.specs.HashMap.{get};
 ghost use Rattle.ml_types.specs.declared.node.TyId.{TyId as TyIdValue};
 ghost use Rattle.ml_types.specs.declared.node.TyNode.TheVariants.{Arrow};
@@ -7,7 +7,7 @@ ghost use Rattle.ml_types.specs.Types.{Tree};
 ghost use Rattle.hm_unify.specs.Solutions.{Stands};
 ghost use Rattle.hm_terms.specs.Stores.{store};
 ghost use Rattle.hm_terms.specs.Contexts.{ShowsAny};
-ghost use Rattle.hm_infer.specs.Tables.{AreNoted, AreSlotsBelow, Collects, IsScheme, Fills};
+ghost use Rattle.hm_infer.specs.Tables.{AreNoted, AreSlotsBelow, Collects, HasSeen, IsScheme, Fills, Visits, with_number};
 
 use hm_terms::Solver;
 use ml_types::{Scheme, TyId, TyNode, TyTable};
@@ -122,18 +122,34 @@ fn scheme_of(solver: &Solver, ty: TyId) -> Result<Scheme, NoMemory>
         let Some(node) = solver.head(id) else {
             return Err(NoMemory)
         };
-        match node {
-            TyNode::Var(number) => note(&mut vars, &mut seen, *number)?,
-            TyNode::Con(_, parts) => push_parts(&mut stack, parts.as_slice())?,
-            TyNode::Tuple(parts) => push_parts(&mut stack, parts.as_slice())?,
-            TyNode::Arrow { from, to, .. } => push_two(&mut stack, *from, *to)?,
-        }
+        visit(node, &mut vars, &mut seen, &mut stack)?;
     }
     Err(NoMemory)
 }
 
+/// Notes the variable of a node, or goes on to its parts.
+#[tactic(auto, using(crate::proofs::Uses::visits_variable, crate::proofs::Uses::visits_parts))]
+fn visit(
+    node: &TyNode,
+    vars: &mut Items<u32>,
+    seen: &mut HashMap<u32, bool>,
+    stack: &mut Vec<TyId>,
+) -> Result<(), NoMemory>
+    ensures { OnOk result (HasSeen (get nat_eq seen.old) vars.old → Visits node.now vars.old vars.new stack.old.items stack.new.items × HasSeen (get nat_eq seen.new) vars.new) }
+{
+    match node {
+        TyNode::Var(number) => note(vars, seen, *number),
+        TyNode::Con(_, parts) => push_parts(stack, parts.as_slice()),
+        TyNode::Tuple(parts) => push_parts(stack, parts.as_slice()),
+        TyNode::Arrow { from, to, .. } => push_two(stack, *from, *to),
+    }
+}
+
 /// A variable is among those that came up, once.
-fn note(vars: &mut Items<u32>, seen: &mut HashMap<u32, bool>, number: u32) -> Result<(), NoMemory> {
+#[tactic(auto, using(crate::proofs::Uses::note_old))]
+fn note(vars: &mut Items<u32>, seen: &mut HashMap<u32, bool>, number: u32) -> Result<(), NoMemory>
+    ensures { OnOk result (HasSeen (get nat_eq seen.old) vars.old → (vars.new ≡ with_number vars.old number) × HasSeen (get nat_eq seen.new) vars.new) }
+{
     if seen.contains_key(&number) {
         return Ok(());
     }
@@ -143,7 +159,9 @@ fn note(vars: &mut Items<u32>, seen: &mut HashMap<u32, bool>, number: u32) -> Re
 }
 
 /// Pushes parts, the first on top.
-fn push_parts(stack: &mut Vec<TyId>, parts: &[TyId]) -> Result<(), NoMemory> {
+fn push_parts(stack: &mut Vec<TyId>, parts: &[TyId]) -> Result<(), NoMemory>
+    ensures { OnOk result (stack.new.items ≡ stack.old.items ++ reverse parts.now) }
+{
     for done in 0..parts.len() {
         stack.push(parts[parts.len() - 1 - done])?;
     }
@@ -151,7 +169,9 @@ fn push_parts(stack: &mut Vec<TyId>, parts: &[TyId]) -> Result<(), NoMemory> {
 }
 
 /// Pushes the two parts of an arrow, the first on top.
-fn push_two(stack: &mut Vec<TyId>, from: TyId, to: TyId) -> Result<(), NoMemory> {
+fn push_two(stack: &mut Vec<TyId>, from: TyId, to: TyId) -> Result<(), NoMemory>
+    ensures { OnOk result (stack.new.items ≡ stack.old.items ++ to ∷ from ∷ []) }
+{
     stack.push(to)?;
     stack.push(from)?;
     Ok(())

@@ -1,10 +1,10 @@
-use Rattle.std.proofs.lemmas.Result.{OnOk-weaker, IfErr-weaker}
+use Rattle.std.proofs.lemmas.Result.{on_ok_weaker, IfErr-weaker}
 use Rattle.hm_terms.specs.Stores.{store}
 use Rattle.hm_infer.proofs.Shown.{starts}
 use Rattle.hm_infer.proofs.items.check_item.Goals as goal
 
 pub returns-clause-ok : goal.returns-clause-ok
-returns-clause-ok c = OnOk-weaker c.judge.result
+returns-clause-ok c = on_ok_weaker c.judge.result
     (λ h d read none. h d (c.in_ok-progress.ensures d read (starts (store c.args.solver.now) c.sound.ensures none)))
     c.judge.ensures.ok
 
