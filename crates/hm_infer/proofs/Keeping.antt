@@ -35,3 +35,6 @@ keeps_refused old mid new decls c step ids k lowers same =
 
 pub keeps_same : (s : Store) → Keeps s s
 keeps_same s x w k = k
+
+pub keeps_to : (a b c : Store) → c ≡ b → Keeps a b → Keeps a c
+keeps_to a b c same k = subst (λ (s : Store). Keeps a s) (sym same) k

@@ -1,4 +1,15 @@
 pub mod Shown
+mod Lists
+mod Tabling
+mod Faults
+mod Programs
+pub mod Trees
+pub mod Congruent
+pub mod Names
+pub mod FromShapes
+pub mod FromIds
+pub mod StepPairs
+pub mod Decided
 pub mod Stable
 pub mod Apart
 pub mod Readings
@@ -11,3 +22,5 @@ pub mod Keeping
 pub mod Behind
 pub mod Comparing
 pub mod Leaving
+pub mod Starting
+pub mod Uses

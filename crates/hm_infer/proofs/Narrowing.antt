@@ -70,7 +70,7 @@ narrowing_more old new decls c steps small number step at knows n = record {
 }
 
 -- the types that are shown satisfy the equations of the steps
-shown_satisfies : (s : Store) (decls : List DeclInfo) (c : Context) (ps : List Pair) → Knowing s decls c ps → IsSound s.nodes s.bound → (a : Assignment) × IsShown s a × Satisfies a ps
+pub shown_satisfies : (s : Store) (decls : List DeclInfo) (c : Context) (ps : List Pair) → Knowing s decls c ps → IsSound s.nodes s.bound → (a : Assignment) × IsShown s a × Satisfies a ps
 shown_satisfies s decls c ps k sound =
     let a = shown s k.read.ready sound in
     let r = shown_reading s a.0 k.read.ready sound a.1 in
@@ -84,7 +84,7 @@ narrowing_small s decls c steps small number sound looked n =
       fits = (a.0, a.2, looked a.0 a.1);
     }
 
-makes_large : (s : Store) (decls : List DeclInfo) (c : Context) (steps : List Step) → IsSound s.nodes s.bound → ((a : Assignment) → IsShown s a → HasLarge s steps a) → Knowing s decls c (pairs c steps) → MakesLarge c steps
+pub makes_large : (s : Store) (decls : List DeclInfo) (c : Context) (steps : List Step) → IsSound s.nodes s.bound → ((a : Assignment) → IsShown s a → HasLarge s steps a) → Knowing s decls c (pairs c steps) → MakesLarge c steps
 makes_large s decls c steps sound looked k =
     let a = shown_satisfies s decls c (pairs c steps) k sound in
     let v = looked a.0 a.1 in

@@ -1,10 +1,11 @@
 //! One item: its steps, its comparisons, and what it leaves for the items behind it.
-ghost use Rattle.std.specs.Prelude.{◌++◌, ◌∷◌, List, [], OnOk, IfOk, IfErr};
+ghost use Rattle.std.specs.Prelude.{◌≡◌, ◌++◌, ◌∷◌, ℕ, List, [], None, nat_eq, take, OnOk, IfOk, IfErr};
+ghost use Rattle.std.specs.HashMap.{get};
 ghost use Rattle.ml_typing.specs.Terms.{Context};
 ghost use Rattle.ml_typing.specs.Typing.{Assignment, ItemSteps, behind_all, steps_of_item};
 ghost use Rattle.hm_terms.specs.Stores.{store};
 ghost use Rattle.hm_terms.specs.Contexts.{IsRead};
-ghost use Rattle.hm_infer.specs.Running.{HasNoIds, Keeps};
+ghost use Rattle.hm_infer.specs.Running.{HasNoIds, Runs, Keeps};
 ghost use Rattle.hm_infer.specs.Answers.{Checked, IsItemFault, IsLimitAt, IsRefusedAt, Behind, SomeBehind};
 ghost use Rattle.hm_infer.specs.Closing.{Compared, Leaves};
 
@@ -12,7 +13,7 @@ use crate::comparisons::bad_comparison;
 use crate::error::InferErr;
 use crate::limit::first_large;
 use crate::rules::rule_of;
-use crate::run::{Outcome, run_steps};
+use crate::run::{Outcome, Progress, run_steps};
 use crate::schemes::{close_item, note_nodes};
 use crate::sizes::any_large;
 use hm_steps::{item_binders, item_steps};
@@ -22,6 +23,7 @@ use ml_types::{Decls, TyId};
 use ml_typing::Step;
 use oxml_base::{Limit, NoMemory, Refusal, Span};
 use sqlite_items::at;
+use std::alloc::Global;
 use std::collections::HashMap;
 
 /// What was found of the items so far.
@@ -33,6 +35,19 @@ pub struct Found {
     pub bad: Option<Span>,
 }
 
+impl Found {
+    /// Nothing was found.
+    pub fn new(alloc: Global) -> Found
+        ensures nodes { (n : ℕ) → get nat_eq result.nodes n ≡ None }
+        ensures bad { result.bad ≡ None }
+    {
+        Found {
+            nodes: HashMap::new(alloc),
+            bad: None,
+        }
+    }
+}
+
 /// Runs the steps of an item, each of which must have a solution and make no type too large.
 fn check_item(solver: &mut Solver, d: &Decls, steps: &[Step]) -> Result<(), InferErr>
     ensures ok { OnOk result ((c : Context) → IsRead (store solver.old) d.now.types c → HasNoIds (store solver.old) → Checked (store solver.new) d.now.types c steps.now) }
@@ -41,10 +56,23 @@ fn check_item(solver: &mut Solver, d: &Decls, steps: &[Step]) -> Result<(), Infe
 {
     solver.sound();
     let progress = run_steps(solver, d, steps)?;
-    let Some(done) = steps.get(..progress.done) else {
-        return Err(InferErr::NoMemory)
-    };
+    judge(solver, d, steps, progress)
+}
+
+/// What became of the steps of an item, of which so many hold.
+#[tactic(auto, using(crate::proofs::Faults::judged_held))]
+fn judge(
+    solver: &mut Solver,
+    d: &Decls,
+    steps: &[Step],
+    progress: Progress,
+) -> Result<(), InferErr>
+    ensures ok { OnOk result ((c : Context) → Runs (store solver.old) d.now.types c steps.now progress → Checked (store solver.new) d.now.types c steps.now) }
+    ensures same { OnOk result (store solver.new ≡ store solver.old) }
+    ensures err { IfErr result (λ e. (c : Context) → Runs (store solver.old) d.now.types c steps.now progress → IsItemFault c steps.now e) }
+{
     solver.sound();
+    let done = front(steps, progress.done)?;
     let large = any_large(solver, done)?;
     if large {
         let place = first_large(solver, d, done)?;
@@ -55,6 +83,13 @@ fn check_item(solver: &mut Solver, d: &Decls, steps: &[Step]) -> Result<(), Infe
         Outcome::Large => too_large(steps, progress.done),
         Outcome::Unsolved(span) => unsolved(solver, d, steps, progress.done, span),
     }
+}
+
+/// The first steps, so many.
+fn front(steps: &[Step], count: usize) -> Result<&[Step], NoMemory>
+    ensures { IfOk result (λ f. f.now ≡ take count steps.now) }
+{
+    steps.get(..count).ok_or(NoMemory)
 }
 
 /// The limit at the step of this place.
@@ -82,10 +117,8 @@ fn unsolved(
     let Some(behind) = place.checked_add(1) else {
         return Err(InferErr::NoMemory)
     };
-    let Some(front) = steps.get(..behind) else {
-        return Err(InferErr::NoMemory)
-    };
-    let rule = rule_of(solver, d, front)?;
+    let behind_steps = front(steps, behind)?;
+    let rule = rule_of(solver, d, behind_steps)?;
     Err(InferErr::Refused(Refusal { rule, span }))
 }
 

@@ -8,7 +8,7 @@ ghost use Rattle.ml_typing.specs.Typing.{Reads, first_context};
 ghost use Rattle.hm_unify.specs.States.{IsTable};
 ghost use Rattle.hm_terms.specs.Stores.{store, AddsNode};
 ghost use Rattle.hm_terms.specs.Contexts.{IsRead};
-ghost use Rattle.hm_infer.specs.Starts.{AreWithin, AddsFunction};
+ghost use Rattle.hm_infer.specs.Starts.{AreWithin, AddsFunction, IsFirst, HaveTypes, AreBasic, operation_types};
 ghost use Rattle.hm_infer.specs.Running.{HasNoIds};
 
 use crate::table::slots_of;
@@ -17,8 +17,18 @@ use ml_types::{TyId, TyNode, TyTable};
 use oxml_base::{Items, NoMemory};
 use std::alloc::Global;
 
+/// The types of which those of the operations are made.
+#[derive(Clone, Copy)]
+struct Basic {
+    int: TyId,
+    char: TyId,
+    string: TyId,
+    unit: TyId,
+    /// A variable.
+    any: TyId,
+}
+
 /// A solver before the first item, over the declared types.
-#[tactic(auto, using(crate::proofs::Readings::read_forgets))]
 pub fn first_solver(alloc: Global, table: TyTable) -> Result<Solver, NoMemory>
     requires { IsTable table.nodes }
     ensures read { IfOk result (λ s. (decls : List DeclInfo) (declared : TyIdValue → Tree) → AreWithin (length table.nodes) decls → Reads table.nodes declared → IsRead (store s) decls (first_context decls declared)) }
@@ -39,26 +49,42 @@ fn plain(solver: &mut Solver, decl: u32) -> Result<TyId, NoMemory>
     solver.add(TyNode::Con(decl, args))
 }
 
-/// Gives each operation its type, in the order of the operations. The result of `exit` and of
-/// `failwith` is a variable.
-fn add_operations(solver: &mut Solver) -> Result<(), NoMemory> {
+/// The basic types over which no operation has a type yet. The result of `exit` and of `failwith` is a
+/// variable.
+fn basic_types(solver: &mut Solver) -> Result<Basic, NoMemory>
+    ensures { IfOk result (λ b. IsFirst (store solver.old) → HaveTypes (store solver.old) (store solver.new) [] × AreBasic (store solver.new) b) }
+{
     let int = plain(solver, 0)?;
     let char = plain(solver, 1)?;
     let string = plain(solver, 2)?;
     let unit = plain(solver, 4)?;
     let any = solver.add(TyNode::Var(0))?;
-    add(solver, string, unit)?;
-    add(solver, int, unit)?;
-    add(solver, char, unit)?;
-    add(solver, string, unit)?;
-    add(solver, int, string)?;
-    add(solver, char, int)?;
-    add(solver, int, char)?;
-    add(solver, string, int)?;
-    let behind_text = solver.arrow(int, char)?;
-    add(solver, string, behind_text)?;
-    add(solver, int, any)?;
-    add(solver, string, any)
+    Ok(Basic {
+        int,
+        char,
+        string,
+        unit,
+        any,
+    })
+}
+
+/// Gives each operation its type, in the order of the operations.
+fn add_operations(solver: &mut Solver) -> Result<(), NoMemory>
+    ensures { OnOk result (IsFirst (store solver.old) → HaveTypes (store solver.old) (store solver.new) operation_types) }
+{
+    let t = basic_types(solver)?;
+    add(solver, t.string, t.unit)?;
+    add(solver, t.int, t.unit)?;
+    add(solver, t.char, t.unit)?;
+    add(solver, t.string, t.unit)?;
+    add(solver, t.int, t.string)?;
+    add(solver, t.char, t.int)?;
+    add(solver, t.int, t.char)?;
+    add(solver, t.string, t.int)?;
+    let behind_text = solver.arrow(t.int, t.char)?;
+    add(solver, t.string, behind_text)?;
+    add(solver, t.int, t.any)?;
+    add(solver, t.string, t.any)
 }
 
 /// The next operation is a function from one type to another.

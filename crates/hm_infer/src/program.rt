@@ -16,7 +16,6 @@ use ml_types::{Decls, TyTable};
 use ml_typing::Typed;
 use oxml_base::{Refusal, Rule};
 use std::alloc::Global;
-use std::collections::HashMap;
 
 /// The principal types of a program over its declarations and the table that holds their types.
 ///
@@ -34,12 +33,11 @@ pub fn infer(alloc: Global, s: &Scoped, d: &Decls, t: TyTable) -> Result<Typed, 
     let program = s.program();
     let items = program.items.as_slice();
     let mut solver = first_solver(alloc, t)?;
-    let mut found = Found {
-        nodes: HashMap::new(alloc),
-        bad: None,
-    };
+    let mut found = Found::new(alloc);
     for number in 0..items.len() {
-        infer_item(&mut solver, s, d, &items[number], &mut found)?;
+        if let Err(error) = infer_item(&mut solver, s, d, &items[number], &mut found) {
+            return Err(error);
+        }
     }
     match found.bad {
         Some(span) => Err(InferErr::Refused(Refusal {

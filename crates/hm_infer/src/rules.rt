@@ -34,6 +34,7 @@ pub fn rule_of(solver: &mut Solver, d: &Decls, steps: &[Step]) -> Result<Rule, N
 }
 
 /// The pairs of types that the equations of all these steps make equal.
+#[tactic(auto, using(crate::proofs::StepPairs::all_none))]
 fn all_pairs(solver: &mut Solver, d: &Decls, steps: &[Step]) -> Result<Vec<(TyId, TyId)>, NoMemory>
     ensures { IfOk result (λ all. (c : Context) → IsRead (store solver.old) d.now.types c → LowersPairs (store solver.old) (store solver.new) (pairs c steps.now) all.items) }
 {
