@@ -1,25 +1,25 @@
 -- What is known behind one item more.
-use Rattle.std.proofs.Common.{◌≡◌, ℕ, zero, suc, ◌+◌, ◌<◌, ◌≤◌, ◌⊎◌, Bool, true, false, cond, nat_eq, List, [], ◌∷◌, ◌++◌, take, length, Option, Some, None, refl, sym, ap, ◌∙◌, subst, inl, inr, arith}
+use Rattle.std.proofs.Common.{◌≡◌, ℕ, zero, suc, ◌<◌, ◌⊎◌, Bool, true, false, cond, nat_eq, List, [], ◌∷◌, ◌++◌, take, length, Option, Some, None, refl, sym, ap, ◌∙◌, subst, inl, inr, arith}
 use Rattle.std.specs.List.{slice_get}
 use Rattle.std.specs.HashMap.{get}
 use Rattle.std.proofs.lemmas.List.{take-append-le}
 use Rattle.std.proofs.lemmas.Option.{slice_get_within}
-use Rattle.std.proofs.Math.Seq.{take-append_seam, take-length}
+use Rattle.std.proofs.Math.Seq.{take-append_seam}
 use Rattle.oxml_base.specs.declared.span.Span.{Span}
 use Rattle.ml_types.specs.declared.node.TyId.{TyId}
 use Rattle.ml_types.specs.declared.node.TyNode.{TyNode}
 use Rattle.ml_types.specs.declared.declared.DeclInfo.{DeclInfo}
-use Rattle.ml_types.specs.Types.{parts_of, Tree}
+use Rattle.ml_types.specs.Types.{Tree}
 use Rattle.ml_typing.specs.declared.equation.Unknown.{Unknown}
 use Rattle.ml_typing.specs.declared.equation.Unknown.TheVariants.{Node, Binder}
 use Rattle.ml_typing.specs.declared.equation.Step.{Step}
 use Rattle.ml_typing.specs.Terms.{Context}
 use Rattle.ml_typing.specs.Typing.{Assignment, ItemSteps, pairs, is_among, behind, behind_all, IsTyped, IsPrincipal}
-use Rattle.ml_typing.specs.Refusals.{IsSmall, AllSmall, HasTypes, Compares, AllCompare, IsBadComparison}
-use Rattle.hm_unify.specs.Solutions.{Bound, link, node_at, Stands}
+use Rattle.ml_typing.specs.Refusals.{IsSmall, AllSmall, Compares, AllCompare, IsBadComparison}
+use Rattle.hm_unify.specs.Solutions.{Bound, Stands}
 use Rattle.hm_unify.specs.States.{IsSound}
 use Rattle.hm_unify.proofs.Ends.{link-number}
-use Rattle.hm_terms.specs.Stores.{Store, IsClosed, IsReady, Grows, Forgets}
+use Rattle.hm_terms.specs.Stores.{Store, IsClosed, IsReady}
 use Rattle.hm_terms.specs.Contexts.{Shows, ShowsAny, op_place, IsRead}
 use Rattle.hm_terms.proofs.Growth.{longer, stands_grow}
 use Rattle.hm_infer.specs.declared.error.InferErr.{InferErr}
@@ -31,7 +31,6 @@ use Rattle.hm_infer.specs.Answers.{Checked, IsItemFault, noted, AreCompared, Beh
 use Rattle.hm_infer.proofs.Shown.{shown, shown_grows, principal}
 
 -- ---- lists of items and of their types
-
 
 pub typed_length : (c : Context) (types : List Assignment) (items : List ItemSteps) → IsTyped c types items → length types ≡ length items
 typed_length c [] [] h = refl
@@ -281,16 +280,19 @@ left mid new decls c item found more sound sound' checked l = record {
     }
 
 pub behind_next : (old mid new : Store) (decls : List DeclInfo) (c : Context) (items : List ItemSteps) (types : List Assignment) (item : ItemSteps) (found more : Found) → IsSound mid.nodes mid.bound → IsSound new.nodes new.bound → Behind old decls c items types found → Keeps old mid → Checked mid decls (behind_all c types items) item.steps → Leaves mid new item.steps item.binders found more → SomeBehind new decls c (items ++ item ∷ []) more
-behind_next old mid new decls c items types item found more sound sound' k keeps checked leaves = (types ++ l.types ∷ [], record {
-  typed = record {
-    typed = typed_more c types items l.types item typed l.principal;
-    small = small_more types items l.types item k.typed.small l.small;
-  };
-  read = subst (λ (e : Context). IsRead new decls e) (sym (behind_more c types items l.types item typed)) l.read;
-  forgotten = leaves.forgets.none;
-  nodes = λ n. subst (λ (o : Option Tree). ShowsAny new (get nat_eq more.nodes n) o) (sym (noted_more c types items l.types item n typed)) (l.noted n (noted types items n) (any_kept old new kept (get nat_eq found.nodes n) (noted types items n) (k.nodes n)));
-  compared = compared_more mid types items l.types item found.bad more.bad (typed_length c types items typed) l.shown k.compared leaves.compared;
-})
+behind_next old mid new decls c items types item found more sound sound' k keeps checked leaves = (
+  types ++ l.types ∷ [],
+  record {
+    typed = record {
+      typed = typed_more c types items l.types item typed l.principal;
+      small = small_more types items l.types item k.typed.small l.small;
+    };
+    read = subst (λ (e : Context). IsRead new decls e) (sym (behind_more c types items l.types item typed)) l.read;
+    forgotten = leaves.forgets.none;
+    nodes = λ n. subst (λ (o : Option Tree). ShowsAny new (get nat_eq more.nodes n) o) (sym (noted_more c types items l.types item n typed)) (l.noted n (noted types items n) (any_kept old new kept (get nat_eq found.nodes n) (noted types items n) (k.nodes n)));
+    compared = compared_more mid types items l.types item found.bad more.bad (typed_length c types items typed) l.shown k.compared leaves.compared;
+  },
+)
   where
     typed : IsTyped c types items
     typed = k.typed.typed

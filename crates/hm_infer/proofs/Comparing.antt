@@ -1,16 +1,16 @@
 -- Which types can be compared, by the node that stands for an id.
-use Rattle.std.proofs.Common.{◌≡◌, ℕ, zero, suc, ◌+◌, ◌<◌, ◌≤◌, ◌⊎◌, Bool, true, false, List, [], ◌∷◌, take, length, Option, Some, None, refl, sym, ap, ◌∙◌, subst, inl, inr, arith, add-one}
+use Rattle.std.proofs.Common.{◌≡◌, ℕ, zero, suc, ◌+◌, ◌≤◌, ◌⊎◌, Bool, true, false, List, [], ◌∷◌, take, length, Some, None, refl, sym, ap, ◌∙◌, subst, inl, inr, arith, add-one}
 use Rattle.std.specs.List.{slice_get}
 use Rattle.std.specs.Bool.{MatchBool}
 use Rattle.ml_types.specs.declared.node.TyId.{TyId}
 use Rattle.ml_types.specs.declared.node.TyNode.{TyNode}
 use Rattle.ml_types.specs.declared.node.TyNode.TheVariants.{Var, Con, Tuple, Arrow}
-use Rattle.ml_types.specs.Types.{Head, ConHead, TupleHead, ArrowHead, head_of, parts_of, Tree, Leaf, Node, Trees, Nil, Cons}
+use Rattle.ml_types.specs.Types.{Head, ConHead, TupleHead, ArrowHead, head_of, Tree, Leaf, Node, Trees, Nil}
 use Rattle.ml_typing.specs.declared.equation.Unknown.{Unknown}
 use Rattle.ml_typing.specs.declared.equation.Step.{Step}
 use Rattle.ml_typing.specs.Typing.{Assignment}
 use Rattle.ml_typing.specs.Refusals.{CanCompare, Compares}
-use Rattle.hm_unify.specs.Solutions.{Bound, Stands}
+use Rattle.hm_unify.specs.Solutions.{Stands}
 use Rattle.hm_unify.specs.States.{IsHead}
 use Rattle.hm_terms.specs.Stores.{Store, state}
 use Rattle.hm_terms.proofs.Growth.{stands_within}

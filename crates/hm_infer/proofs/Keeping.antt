@@ -1,7 +1,5 @@
 -- What was there before an item stands for what it did, while the steps of the item are run.
-use Rattle.std.proofs.Common.{◌≡◌, List, [], map, sym, subst}
-use Rattle.ml_types.specs.declared.node.TyId.{TyId}
-use Rattle.ml_types.specs.Types.{Tree}
+use Rattle.std.proofs.Common.{◌≡◌, List, sym, subst}
 use Rattle.ml_types.specs.declared.declared.DeclInfo.{DeclInfo}
 use Rattle.ml_typing.specs.declared.equation.Unknown.{Unknown}
 use Rattle.ml_typing.specs.declared.equation.Step.{Step}
@@ -10,7 +8,7 @@ use Rattle.ml_typing.specs.Typing.{step_pairs}
 use Rattle.hm_unify.specs.Solutions.{Pairs}
 use Rattle.hm_unify.specs.States.{Equated}
 use Rattle.hm_terms.specs.Stores.{Store, state, SameNames, IsReady, Grows}
-use Rattle.hm_terms.specs.Contexts.{Shows, IsRead}
+use Rattle.hm_terms.specs.Contexts.{IsRead}
 use Rattle.hm_terms.proofs.Contexts.{shows_grow, read_grows}
 use Rattle.hm_infer.specs.Running.{Keeps}
 use Rattle.hm_infer.proofs.Readings.{keeps_equated}

@@ -10,7 +10,7 @@ use Rattle.ml_typing.specs.declared.equation.Step.{Step}
 use Rattle.ml_typing.specs.Typing.{is_among}
 use Rattle.hm_unify.specs.Solutions.{Bound}
 use Rattle.hm_unify.specs.States.{AddsFresh}
-use Rattle.hm_terms.specs.Stores.{Store, state, AddsUnknown, Knows, Grows, Generalises, SameNames}
+use Rattle.hm_terms.specs.Stores.{Store, state, Knows, Grows, Generalises}
 use Rattle.hm_terms.proofs.Growth.{grows_same, grows_then}
 use Rattle.hm_terms.proofs.Holding.{grows_unknown}
 use Rattle.hm_terms.proofs.Walking.{take_all}

@@ -1,6 +1,6 @@
 -- The types for which ids stand: they are there, they are one each, and they are the most general of
 -- all that fit what the solver knows.
-use Rattle.std.proofs.Common.{◌≡◌, ℕ, zero, suc, ◌+◌, ◌<◌, ◌≤◌, ◌⊎◌, List, [], ◌∷◌, length, Option, Some, None, get_or, refl, sym, ap, ◌∙◌, subst, inl, inr, arith}
+use Rattle.std.proofs.Common.{◌≡◌, ℕ, zero, suc, ◌<◌, ◌≤◌, ◌⊎◌, List, [], ◌∷◌, length, Option, Some, None, get_or, refl, sym, ap, ◌∙◌, subst, inl, inr, arith}
 use Rattle.std.specs.List.{slice_get}
 use Rattle.std.specs.Option.{option_and_then}
 use Rattle.std.proofs.lemmas.Bool.{cases_lt, cases_eq}
@@ -10,14 +10,14 @@ use Rattle.ml_types.specs.declared.node.TyNode.{TyNode}
 use Rattle.ml_types.specs.declared.node.TyNode.TheVariants.{Var, Con, Tuple, Arrow}
 use Rattle.ml_types.specs.Types.{Head, head_of, parts_of, Tree, Leaf, Node, Trees, Nil, Cons, trees, tree_size, trees_size}
 use Rattle.ml_typing.specs.declared.equation.Unknown.{Unknown}
-use Rattle.ml_typing.specs.Typing.{Assignment, Pair, Satisfies, at_types, all_at_types, Occurs, IsInstance, IsPrincipal}
+use Rattle.ml_typing.specs.Typing.{Assignment, Pair, Satisfies, at_types, all_at_types, IsInstance, IsPrincipal}
 use Rattle.hm_unify.specs.Solutions.{Bound, node_at, link, Ends, here, there, Solves, Stands, variable, built, StandAll, none, more}
 use Rattle.hm_unify.specs.States.{IsTabled, IsSound}
 use Rattle.hm_unify.specs.Closing.{end_at}
 use Rattle.hm_unify.proofs.Ends.{Ends-unique, Ends-end_at, Ends-within, head-link, var-number, link-within, link-number, number-var}
 use Rattle.hm_unify.proofs.Starts.{Ends-same}
 use Rattle.hm_terms.specs.Stores.{Store, Reading, IsReady, Grows}
-use Rattle.hm_terms.proofs.Growth.{Longer, longer, node_same, ends_back, end_within, stands_grow, stands_within}
+use Rattle.hm_terms.proofs.Growth.{Longer, longer, node_same, ends_back, end_within, stands_grow}
 use Rattle.hm_infer.specs.Running.{HasNoIds, Agrees, IsShown}
 
 -- ---- an id stands for one tree

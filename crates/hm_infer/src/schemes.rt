@@ -36,11 +36,7 @@ pub fn note_nodes(
 }
 
 /// Notes the type of the node of a step.
-fn note_step(
-    solver: &Solver,
-    step: &Step,
-    nodes: &mut HashMap<u32, TyId>,
-) -> Result<(), NoMemory>
+fn note_step(solver: &Solver, step: &Step, nodes: &mut HashMap<u32, TyId>) -> Result<(), NoMemory>
     ensures { OnOk result (Notes (store solver.now) (step.now ∷ []) (get nat_eq nodes.old) (get nat_eq nodes.new)) }
 {
     if let Some(node) = step.node {

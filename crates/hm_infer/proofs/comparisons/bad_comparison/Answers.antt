@@ -1,6 +1,5 @@
-use Rattle.std.proofs.Common.{Bool, Some, refl, subst}
+use Rattle.std.proofs.Common.{Bool, refl, subst}
 use Rattle.std.specs.Bool.{MatchBool}
-use Rattle.std.specs.List.{slice_get}
 use Rattle.std.proofs.lemmas.Option.{slice_get_read}
 use Rattle.hm_infer.specs.Compared.{IsGoodAt, IsBadAt}
 use Rattle.hm_infer.proofs.Comparing.{compares_next, compares_all, bad_among}

@@ -1,4 +1,4 @@
-use Rattle.std.proofs.Common.{rules, ◌≡◌, ℕ}
+use Rattle.std.proofs.Common.{rules}
 use Rattle.hm_terms.specs.Stores.{store}
 use Rattle.hm_infer.proofs.Comparing.{compares_by_head, compares_none}
 use Rattle.hm_infer.proofs.comparisons.can_compare.Goals as goal

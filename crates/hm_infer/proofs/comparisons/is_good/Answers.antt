@@ -1,4 +1,3 @@
-use Rattle.std.proofs.Common.{rules}
 use Rattle.std.proofs.lemmas.Result.{IfOk-weaker}
 use Rattle.hm_terms.specs.Stores.{store}
 use Rattle.hm_infer.proofs.Comparing.{good_at, nothing_at}

@@ -1,7 +1,7 @@
 use Rattle.std.proofs.Common.{get_or}
 use Rattle.std.proofs.lemmas.Option.{slice_get-get_or}
 use Rattle.hm_terms.specs.Stores.{store}
-use Rattle.hm_infer.proofs.Leaving.{closing_start, closing_next, closing_done}
+use Rattle.hm_infer.proofs.Leaving.{closing_start, closing_next}
 use Rattle.hm_infer.proofs.schemes.close_item.Goals as goal
 
 pub loop-binder-init : goal.loop-binder-init

@@ -1,4 +1,4 @@
-use Rattle.std.proofs.Common.{ℕ, ◌+◌, List, sym, subst, ◌∙◌}
+use Rattle.std.proofs.Common.{◌+◌, List, sym, subst, ◌∙◌}
 use Rattle.ml_types.specs.declared.node.Scheme.{Scheme}
 use Rattle.hm_terms.specs.Stores.{store}
 use Rattle.hm_infer.specs.Tables.{Collects}
