@@ -1,5 +1,6 @@
 pub mod Running
 pub mod Starts
+pub mod Declared
 pub mod Sizes
 pub mod Compared
 pub mod Closing

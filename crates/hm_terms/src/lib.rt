@@ -9,5 +9,6 @@ mod nodes;
 mod solver;
 
 pub use ids::Ids;
+pub use instance::{Put, instance};
 pub use lowering::type_of;
 pub use solver::Solver;
