@@ -60,12 +60,7 @@ fn check_item(solver: &mut Solver, d: &Decls, steps: &[Step]) -> Result<(), Infe
 
 /// What became of the steps of an item, of which so many hold.
 #[tactic(auto, using(crate::proofs::Faults::judged_held))]
-fn judge(
-    solver: &mut Solver,
-    d: &Decls,
-    steps: &[Step],
-    progress: Progress,
-) -> Result<(), InferErr>
+fn judge(solver: &mut Solver, d: &Decls, steps: &[Step], progress: Progress) -> Result<(), InferErr>
     ensures ok { OnOk result ((c : Context) → Runs (store solver.old) d.now.types c steps.now progress → Checked (store solver.new) d.now.types c steps.now) }
     ensures err { IfErr result (λ e. (c : Context) → Runs (store solver.old) d.now.types c steps.now progress → IsItemFault c steps.now e) }
 {
