@@ -1,12 +1,9 @@
 -- What terms are read by, as what the solver knows of it.
-use Rattle.std.specs.Prelude.{◌≡◌, ℕ, ◌<◌, List, [], ◌∷◌, Option, Some, None, slice_get}
+use Rattle.std.specs.Prelude.{◌≡◌, ℕ, ◌<◌, List, Option, Some, None, slice_get}
 use Rattle.ml_types.specs.declared.node.TyId.{TyId}
 use Rattle.ml_types.specs.declared.node.TyNode.{TyNode}
 use Rattle.ml_types.specs.Types.{Tree, parts_of}
 use Rattle.ml_types.specs.declared.declared.DeclInfo.{DeclInfo}
-use Rattle.ml_types.specs.declared.declared.ConInfo.{ConInfo}
-use Rattle.ml_types.specs.declared.declared.ArgInfo.{ArgInfo}
-use Rattle.ml_types.specs.declared.declared.FieldInfo.{FieldInfo}
 use Rattle.ml_tree.specs.declared.reference.Op.{Op}
 use Rattle.ml_tree.specs.declared.reference.Op.TheVariants.{PrintString, PrintInt, PrintChar, PrerrString, StringOfInt, IntOfChar, CharOfInt, StringLength, StringGet, Exit, Failwith}
 use Rattle.ml_typing.specs.Terms.{Context}
@@ -47,11 +44,7 @@ pub record IsRead (s : Store) (decls : List DeclInfo) (c : Context) : Type 0 whe
   pub closed_links : (x y : TyId) → x.0 < s.mark → link s.nodes s.bound x ≡ Some y → y.0 < s.mark
   pub closed_parts : (x p : TyId) (n : TyNode) (i : ℕ) → x.0 < s.mark → node_at s.nodes x ≡ Some n → slice_get (parts_of n) i ≡ Some p → p.0 < s.mark
 
--- how many parameters a declaration has, and what it abbreviates
+-- how many parameters a declaration has
 abbrev pub vars_of : Option DeclInfo → ℕ
 vars_of None = 0
 vars_of (Some d) = d.vars
-
-abbrev pub alias_of : Option DeclInfo → Option TyId
-alias_of None = None
-alias_of (Some d) = d.alias

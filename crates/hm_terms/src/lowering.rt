@@ -3,13 +3,14 @@ ghost use Rattle.std.specs.Prelude.{◌≡◌, ◌+◌, ◌-◌, ◌<◌, IfOk, 
 ghost use Rattle.ml_types.specs.declared.declared.ArgInfo.{ArgInfo as ArgValue};
 ghost use Rattle.ml_types.specs.declared.declared.DeclInfo.{DeclInfo as DeclValue};
 ghost use Rattle.ml_typing.specs.Terms.{Shape, Context, shape_of, top, made, argument, field, named, function, at_fresh, cons_of, fields_of, product, no_shape, fresh_from};
+ghost use Rattle.ml_typing.specs.Typing.{alias_of};
 ghost use Rattle.ml_types.specs.Types.{Tree};
 ghost use Rattle.hm_unify.specs.Solutions.{Stands};
 ghost use Rattle.hm_terms.specs.Stores.{store, IsReady};
 ghost use Rattle.hm_terms.specs.Shapes.{Lowers, LowersAll, Holds, HoldAll};
-ghost use Rattle.hm_terms.specs.Contexts.{IsRead, vars_of, alias_of};
+ghost use Rattle.hm_terms.specs.Contexts.{IsRead, vars_of};
 
-use crate::instance::{Put, instance};
+use crate::instances::{Put, instance};
 use crate::solver::Solver;
 use ml_tree::Op;
 use ml_types::{ArgInfo, ConInfo, DeclInfo, Decls, FieldInfo, TyId, TyNode};
