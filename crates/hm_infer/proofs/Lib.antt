@@ -13,6 +13,7 @@ pub mod Stable
 pub mod Apart
 pub mod Readings
 pub mod Shown
+pub mod Declaring
 pub mod Agreements
 pub mod Lowerings
 pub mod StepRuns

@@ -10,7 +10,8 @@ use Rattle.ml_typing.specs.declared.equation.Unknown.TheVariants.{Fresh}
 use Rattle.ml_typing.specs.Terms.{at_fresh}
 use Rattle.ml_typing.specs.Typing.{Reads}
 use Rattle.hm_unify.specs.Solutions.{Stands}
-use Rattle.hm_terms.specs.Stores.{Store, IsReady, Grows}
+use Rattle.hm_unify.specs.States.{IsHead}
+use Rattle.hm_terms.specs.Stores.{Store, state, IsReady}
 use Rattle.hm_terms.specs.Shapes.{Holds}
 
 -- a solver without nodes
@@ -50,6 +51,10 @@ abbrev mutual
   AllNamed s Nil = Unit {0}
   AllNamed s (Cons t ts) = AreNamed s t × AllNamed s ts
 
+-- the id of the variable of a number
+abbrev pub IsVariable : Store → ℕ → TyId → Type 0
+IsVariable s n x = (s.ids (Fresh 0 n) ≡ Some x) × IsHead (state s) x (Var n)
+
 -- the id of a type with such variables
 pub record Expands (s : Store) (w : Tree) (y : TyId) : Type 0 where
   pub holds : Holds s (at_fresh 0 w) y
@@ -68,5 +73,5 @@ abbrev pub Finds : Store → Store → (TyId → Tree) → Tree → Option TyId 
 Finds old new declared w o = (first : Store) → AreExpanded first old declared → AreExpanded first new declared × IfSome o (λ y. Expands new w y)
 
 -- more declared types have ids
-abbrev pub Declared : List DeclInfo → List TyNode → Store → Store → Type 0
-Declared decls nodes old new = (first : Store) (declared : TyId → Tree) → Reads decls nodes declared → AreExpanded first old declared → AreExpanded first new declared
+abbrev pub DeclaresMore : List DeclInfo → List TyNode → Store → Store → Type 0
+DeclaresMore decls nodes old new = (first : Store) (declared : TyId → Tree) → Reads decls nodes declared → AreExpanded first old declared → AreExpanded first new declared
