@@ -16,7 +16,7 @@ use Rattle.hm_terms.specs.Copies.{AreCopies}
 use Rattle.hm_terms.proofs.Growth.{longer, stands_grow, stands_within}
 use Rattle.hm_terms.proofs.Holding.{holds_grows, knows_lowers, node_lowers}
 use Rattle.hm_terms.proofs.Rebuilding.{same_count}
-use Rattle.hm_infer.specs.Declared.{IsBuilt, IsVariable, AreNamed, AllNamed, Expands, AreExpanded, Finds}
+use Rattle.hm_infer.specs.Declaring.{IsBuilt, IsVariable, AreNamed, AllNamed, Expands, AreExpanded, Finds}
 use Rattle.hm_infer.proofs.Shown.{shown, shown_reading, tree_unique, Standing}
 
 -- ---- as the solver grows

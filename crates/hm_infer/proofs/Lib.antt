@@ -14,6 +14,7 @@ pub mod Apart
 pub mod Readings
 pub mod Shown
 pub mod Declaring
+pub mod Declarations
 pub mod Agreements
 pub mod Lowerings
 pub mod StepRuns

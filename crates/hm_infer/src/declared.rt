@@ -6,7 +6,7 @@ ghost use Rattle.ml_types.specs.Types.{Tree, parts_of};
 ghost use Rattle.ml_typing.specs.Typing.{Reads, abbreviated, alias_of, tree_at, at_types};
 ghost use Rattle.hm_terms.specs.Stores.{store, IsReady, Grows};
 ghost use Rattle.hm_terms.specs.Copies.{AreCopies};
-ghost use Rattle.hm_infer.specs.Declared.{IsBare, AreBelow, AreDeclared, IsBuilt, IsVariable, DeclaresMore, Finds};
+ghost use Rattle.hm_infer.specs.Declaring.{IsBare, AreBelow, AreDeclared, IsBuilt, IsVariable, DeclaresMore, Finds};
 
 use hm_terms::{Put, Solver, instance};
 use ml_types::{Decls, TyId, TyNode, TyTable};
@@ -294,7 +294,7 @@ fn variable(solver: &Solver, number: u32) -> Option<TyId>
 
 /// The id of an abbreviation whose body and arguments have ids. A large body is given up where there is
 /// no room: no value has its type.
-#[tactic(auto, using(crate::proofs::Declarations::none_found_at, crate::proofs::Declarations::expansion_at))]
+#[tactic(auto, using(crate::proofs::Declaring::none_found))]
 fn expanded(
     solver: &mut Solver,
     node: &TyNode,
@@ -321,13 +321,12 @@ fn expanded(
 }
 
 /// The ids of declared types; `None` where one has none.
-#[tactic(auto, using(crate::proofs::Declarations::copies_none, crate::proofs::Declarations::copies_more))]
 fn ids_of(solver: &Solver, parts: &[TyId]) -> Result<Option<Items<TyId>>, NoMemory>
     ensures { IfOk result (λ o. IfSome o (λ ids. AreCopies (store solver.now).declared parts.now ids)) }
 {
     let mut ids = Items::new(solver.alloc);
-    for number in 0..parts.len() {
-        let Some(id) = solver.declared(parts[number]) else {
+    for part in parts {
+        let Some(id) = solver.declared(*part) else {
             return Ok(None)
         };
         ids.push(id)?;
