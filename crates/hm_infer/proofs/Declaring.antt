@@ -1,6 +1,6 @@
 -- Declared types whose abbreviations are expanded: what stays while the solver grows, and the ids of nodes
 -- and of abbreviations.
-use Rattle.std.proofs.Common.{◌≡◌, ℕ, zero, suc, List, [], ◌∷◌, length, map, Option, Some, None, IfSome, refl, sym, ap, ◌∙◌, subst, inl}
+use Rattle.std.proofs.Common.{◌≡◌, ℕ, zero, suc, List, [], ◌∷◌, length, map, Option, Some, None, IfSome, Bor, refl, sym, ap, ◌∙◌, subst, inl}
 use Rattle.ml_types.specs.declared.node.TyId.{TyId}
 use Rattle.ml_types.specs.declared.node.TyNode.{TyNode}
 use Rattle.ml_types.specs.declared.node.TyNode.TheVariants.{Var, Con, Tuple, Arrow}
@@ -11,7 +11,8 @@ use Rattle.ml_typing.specs.Typing.{Assignment, tree_of, trees_of, at_types, all_
 use Rattle.hm_unify.specs.Solutions.{Stands, variable}
 use Rattle.hm_unify.specs.States.{IsSound}
 use Rattle.hm_terms.specs.Stores.{Store, Reading, IsReady, Grows, AddsNode}
-use Rattle.hm_terms.specs.Shapes.{Holds, HoldAll, Lowers}
+use Rattle.hm_terms.specs.Shapes.{Holds, HoldAll, Lowers, Puts}
+use Rattle.hm_terms.specs.declared.instances.Put.TheVariants as p
 use Rattle.hm_terms.specs.Copies.{AreCopies}
 use Rattle.hm_terms.proofs.Growth.{longer, stands_grow, stands_within}
 use Rattle.hm_terms.proofs.Holding.{holds_grows, knows_lowers, node_lowers}
@@ -186,3 +187,19 @@ expansion_found old new declared body parts x sound i = λ first k. answer first
             named = named_grows old new k.ready l.grows (at_types (tree_at (map declared parts)) (declared body)) named;
           },
         )
+
+-- ---- ids that were found
+
+pub some_ids : (s : Store) (slice parts : List TyId) (o : Option (List TyId)) (ids : List TyId) → slice ≡ parts → IfSome o (λ ys. AreCopies s.declared slice ys) → o ≡ Some ids → AreCopies s.declared parts ids
+some_ids s slice parts o ids e h is = subst (λ (ps : List TyId). AreCopies s.declared ps ids) e (subst (λ (q : Option (List TyId)). IfSome q (λ ys. AreCopies s.declared slice ys)) is h)
+
+pub expansion_at : (old new : Store) (declared : TyId → Tree) (node : TyNode) (number : ℕ) (body root x : TyId) (parts arguments : List TyId) (args : Bor (List TyId)) → node ≡ Con number parts → Some root ≡ old.declared body.0 → AreCopies old.declared parts arguments → args.now ≡ arguments → IsSound old.nodes old.bound → ((f : ℕ → Shape) (w : Tree) → IsReady old → Puts old (p.Arguments args) f → Stands old.nodes old.bound root w → Lowers old new (with_shapes f w) x) → Finds old new declared (at_types (tree_at (map declared (parts_of node))) (declared body)) (Some x)
+expansion_at old new declared node number body root x parts arguments args e has are same sound lowers =
+    subst (λ (n : TyNode). Finds old new declared (at_types (tree_at (map declared (parts_of n))) (declared body)) (Some x)) (sym e)
+    (expansion_found old new declared body parts x sound (record {
+      root = root;
+      has_root = sym has;
+      arguments = arguments;
+      are = are;
+      lowers = λ hs w r hold stands. lowers (shape_at hs) w r (hs, subst (HoldAll old hs) (sym same) hold, λ n. refl) stands;
+    }))

@@ -3,4 +3,4 @@ use Rattle.hm_infer.specs.Declaring.{DeclaresMore}
 use Rattle.hm_infer.proofs.declared.declare_from.Given as goal
 
 abbrev pub invariant-loop-_step : goal.invariant-loop-_step
-invariant-loop-_step l = DeclaresMore l.d.now.types l.table.now.nodes (store l.initial.solver) (store l.solver)
+invariant-loop-_step l = DeclaresMore l.d.types l.table.nodes (store l.initial.solver) (store l.solver)

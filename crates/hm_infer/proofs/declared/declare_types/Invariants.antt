@@ -3,4 +3,4 @@ use Rattle.hm_infer.specs.Declaring.{DeclaresMore}
 use Rattle.hm_infer.proofs.declared.declare_types.Given as goal
 
 abbrev pub invariant-loop-number : goal.invariant-loop-number
-invariant-loop-number l = DeclaresMore l.d.now.types l.table.now.nodes (store l.initial.solver) (store l.solver)
+invariant-loop-number l = DeclaresMore l.d.types l.table.nodes (store l.initial.solver) (store l.solver)
