@@ -106,8 +106,8 @@ declared_next first mid new declared ty id k one d = record {
 pub declares_found : (decls : List DeclInfo) (nodes : List TyNode) (old mid new : Store) (ty id : TyId) → ((declared : TyId → Tree) → Reads decls nodes declared → Finds old mid declared (declared ty) (Some id)) → Declares mid new ty.0 id → DeclaresMore decls nodes old new
 declares_found decls nodes old mid new ty id f d = λ first declared r k. (let g = f declared r first k in declared_next first mid new declared ty id g.0 g.1 d)
 
-pub declares_not : (decls : List DeclInfo) (nodes : List TyNode) (old mid : Store) (ty : TyId) → ((declared : TyId → Tree) → Reads decls nodes declared → Finds old mid declared (declared ty) None) → DeclaresMore decls nodes old mid
-declares_not decls nodes old mid ty f = λ first declared r k. (f declared r first k).0
+pub declares_any : (decls : List DeclInfo) (nodes : List TyNode) (old mid : Store) (ty : TyId) (o : Option TyId) → ((declared : TyId → Tree) → Reads decls nodes declared → Finds old mid declared (declared ty) o) → DeclaresMore decls nodes old mid
+declares_any decls nodes old mid ty o f = λ first declared r k. (f declared r first k).0
 
 -- ---- the id of a declared type
 

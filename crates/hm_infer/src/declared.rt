@@ -31,7 +31,6 @@ struct Frame {
 }
 
 /// Gives each declared type an id at which its abbreviations are expanded.
-#[tactic(auto, using(crate::proofs::Declarations::all_declared))]
 pub fn declare_all(solver: &mut Solver, d: &Decls, table: &TyTable) -> Result<(), NoMemory>
     ensures { OnOk result (IsBare (store solver.old) → (declared : TyIdValue → Tree) → Reads d.now.types table.now.nodes declared → AreDeclared (store solver.old) (store solver.new) declared) }
 {
@@ -70,7 +69,7 @@ fn variables_behind(count: u32, node: &TyNode) -> Result<u32, NoMemory>
 
 /// Gives the variables of the declared types ids, as the fresh types of node 0, of which no item has
 /// made any. Made first and in order, each has its own number.
-#[tactic(auto, using(crate::proofs::Declarations::variables_none, crate::proofs::Declarations::variables_more))]
+#[tactic(auto, using(crate::proofs::Declarations::variables_none))]
 fn add_variables(solver: &mut Solver, count: u32) -> Result<(), NoMemory>
     ensures { OnOk result (IsReady (store solver.old) → Grows (store solver.old) (store solver.new)) }
 {
@@ -197,7 +196,6 @@ fn alias(d: &Decls, number: u32) -> Option<TyId>
 }
 
 /// Gives a declared type an id, if its parts and what it abbreviates have one.
-#[tactic(auto, using(crate::proofs::Declarations::declares_found, crate::proofs::Declarations::declares_not))]
 fn declare(
     solver: &mut Solver,
     d: &Decls,
@@ -222,7 +220,7 @@ fn has_room(newest: u32, table: &TyTable) -> bool {
 }
 
 /// The id of a declared type whose parts and body have ids.
-#[tactic(auto, using(crate::proofs::Declarations::found_nothing, crate::proofs::Declarations::found_body, crate::proofs::Declarations::found_built))]
+#[tactic(auto, using(crate::proofs::Declarations::found_nothing))]
 fn find(
     solver: &mut Solver,
     d: &Decls,
@@ -242,7 +240,7 @@ fn find(
 }
 
 /// The id of a node whose parts have ids, as the node says.
-#[tactic(auto, using(crate::proofs::Declaring::con_found, crate::proofs::Declaring::tuple_found, crate::proofs::Declaring::arrow_found, crate::proofs::Declaring::variable_found, crate::proofs::Declaring::none_found))]
+#[tactic(auto, using(crate::proofs::Declaring::none_found))]
 fn built(solver: &mut Solver, node: &TyNode) -> Result<Option<TyId>, NoMemory>
     ensures { IfOk result (λ o. (declared : TyIdValue → Tree) (w : Tree) → IsBuilt declared node.now w → Finds (store solver.old) (store solver.new) declared w o) }
 {
