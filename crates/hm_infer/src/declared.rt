@@ -4,7 +4,7 @@ ghost use Rattle.ml_types.specs.declared.node.TyId.{TyId as TyIdValue};
 ghost use Rattle.ml_types.specs.Types.{Tree};
 ghost use Rattle.ml_typing.specs.Typing.{Reads};
 ghost use Rattle.hm_terms.specs.Stores.{store};
-ghost use Rattle.hm_infer.specs.Declared.{IsBare, AreDeclared};
+ghost use Rattle.hm_infer.specs.Declaring.{IsBare, AreDeclared};
 
 use hm_terms::Solver;
 use ml_types::{Decls, TyTable};
