@@ -1,9 +1,8 @@
 -- The items of a program, one after the other.
-use Rattle.std.proofs.Common.{◌≡◌, ℕ, zero, suc, ◌+◌, ◌<◌, ◌≤◌, List, [], ◌∷◌, ◌++◌, map, length, take, drop, nat_eq, Option, Some, None, refl, sym, ap, ◌∙◌, subst, inl, inr, arith}
+use Rattle.std.proofs.Common.{◌≡◌, ℕ, zero, suc, ◌+◌, ◌≤◌, List, [], ◌∷◌, ◌++◌, map, length, take, drop, nat_eq, Option, Some, None, refl, sym, ap, ◌∙◌, subst, inl, inr}
 use Rattle.std.specs.List.{slice_get}
 use Rattle.std.specs.HashMap.{get}
 use Rattle.oxml_base.specs.declared.span.Span.{Span}
-use Rattle.oxml_base.specs.declared.refusal.Refusal.{Refusal}
 use Rattle.oxml_base.specs.declared.rule.Rule.TheVariants.{Comparison}
 use Rattle.ml_types.specs.declared.declared.DeclInfo.{DeclInfo}
 use Rattle.ml_types.specs.Types.{Tree}
@@ -22,13 +21,16 @@ use Rattle.hm_infer.proofs.Lists.{take_next, take_whole}
 
 -- before the first item
 pub first_behind : (s : Store) (d : List DeclInfo) (c : Context) (found : Found) → IsRead s d c → HasNoIds s → ((n : ℕ) → get nat_eq found.nodes n ≡ None) → found.bad ≡ None → SomeBehind s d c [] found
-first_behind s d c found read none nodes bad = ([], record {
-  typed = record { typed = tt; small = tt };
-  read = read;
-  forgotten = none;
-  nodes = λ n. subst (λ o. ShowsAny s o None) (sym (nodes n)) refl;
-  compared = subst (AreCompared [] []) (sym bad) tt;
-})
+first_behind s d c found read none nodes bad = (
+  [],
+  record {
+    typed = record { typed = tt; small = tt };
+    read = read;
+    forgotten = none;
+    nodes = λ n. subst (λ o. ShowsAny s o None) (sym (nodes n)) refl;
+    compared = subst (AreCompared [] []) (sym bad) tt;
+  },
+)
 
 map_next : {A B : Type 0} (f : A → B) (xs : List A) (x : A) → map f (xs ++ x ∷ []) ≡ map f xs ++ f x ∷ []
 map_next f [] x = refl
@@ -54,15 +56,18 @@ refused_at s d c f xs n x found (Refused r) at (types, k) fault = inl (record {
   typed = k.typed;
   fault = fault (map f (take n xs)) types k;
 })
-refused_at s d c f xs n x found (Limit l span) at (types, k) fault = (let h = fault (map f (take n xs)) types k in (h.0, record {
-  before = map f (take n xs);
-  item = f x;
-  after = map f (drop (suc n) xs);
-  split = split_at f xs n x at;
-  types = types;
-  typed = k.typed;
-  fault = h.1;
-}))
+refused_at s d c f xs n x found (Limit l span) at (types, k) fault = (let h = fault (map f (take n xs)) types k in (
+  h.0,
+  record {
+    before = map f (take n xs);
+    item = f x;
+    after = map f (drop (suc n) xs);
+    split = split_at f xs n x at;
+    types = types;
+    typed = k.typed;
+    fault = h.1;
+  },
+))
 refused_at s d c f xs n x found NoMemory at b fault = tt
 
 pub all_behind : {A : Type 0} (s : Store) (d : List DeclInfo) (c : Context) (f : A → ItemSteps) (xs : List A) (n : ℕ) (found : Found) → length xs ≤ n → SomeBehind s d c (map f (take n xs)) found → SomeBehind s d c (map f xs) found

@@ -1,5 +1,5 @@
 -- What an item leaves.
-use Rattle.std.specs.Prelude.{◌≡◌, ◌⊎◌, ℕ, Bool, true, false, cond, nat_eq, List, [], ◌∷◌, Option, Some, None}
+use Rattle.std.specs.Prelude.{◌≡◌, ℕ, Bool, true, false, cond, nat_eq, List, [], ◌∷◌, Option, Some, None}
 use Rattle.std.specs.HashMap.{get}
 use Rattle.oxml_base.specs.declared.span.Span.{Span}
 use Rattle.ml_types.specs.declared.node.TyId.{TyId}

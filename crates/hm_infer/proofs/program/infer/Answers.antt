@@ -1,4 +1,4 @@
-use Rattle.std.proofs.Common.{◌≡◌, List, map, sym, subst, refl, ap, ◌∙◌}
+use Rattle.std.proofs.Common.{◌≡◌, List, map, subst, refl, ap, ◌∙◌}
 use Rattle.std.proofs.lemmas.Option.{slice_get_read}
 use Rattle.oxml_base.specs.declared.rule.Rule.TheVariants.{Comparison}
 use Rattle.ml_tree.specs.declared.program.Item.{Item}
@@ -6,7 +6,7 @@ use Rattle.ml_typing.specs.Typing.{first_context, steps_of_item}
 use Rattle.hm_terms.specs.Stores.{store}
 use Rattle.hm_infer.specs.declared.error.InferErr.TheVariants.{Refused}
 use Rattle.hm_infer.specs.Tables.{Fills}
-use Rattle.hm_infer.specs.Answers.{SomeBehind, IsRefusedBy, IsTypedAs}
+use Rattle.hm_infer.specs.Answers.{SomeBehind, IsRefusedBy}
 use Rattle.hm_infer.proofs.Programs.{first_behind, next_behind, refused_at, all_behind, compares_badly, typed_as}
 use Rattle.hm_infer.proofs.program.infer.Goals as goal
 

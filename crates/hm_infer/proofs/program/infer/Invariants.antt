@@ -1,4 +1,4 @@
-use Rattle.std.proofs.Common.{map, take, ◌≤◌, length}
+use Rattle.std.proofs.Common.{map, take}
 use Rattle.ml_types.specs.declared.node.TyId.{TyId as TyIdValue}
 use Rattle.ml_types.specs.Types.{Tree}
 use Rattle.ml_typing.specs.Typing.{Reads, first_context, steps_of_item}
