@@ -12,7 +12,7 @@ use Rattle.hm_infer.proofs.program.infer.Goals as goal
 
 pub loop-number-init : goal.loop-number-init
 loop-number-init c = λ declared r.
-    first_behind (store c.in_ok-solver.solver) c.args.d.now.types (first_context c.args.d.now.types declared) _ (c.in_ok-solver.ensures.read c.args.d.now.types declared c.requires.within r) c.in_ok-solver.ensures.forgotten c.new-found.ensures.nodes c.new-found.ensures.bad
+    first_behind (store c.in_ok-solver.solver) c.args.d.now.types (first_context c.args.d.now.types declared) _ (c.in_ok-solver.ensures.read declared r) c.in_ok-solver.ensures.forgotten c.new-found.ensures.nodes c.new-found.ensures.bad
 
 pub returns-in-Err-clause-err : goal.returns-in-Err-clause-err
 returns-in-Err-clause-err c = λ declared r.
