@@ -1,16 +1,16 @@
 -- A walk from ids that lie apart from the nodes of before binds no variable that one of these nodes
 -- has, and the ids lie apart behind it.
-use Rattle.std.proofs.Common.{◌≡◌, ℕ, zero, suc, ◌<◌, ◌⊎◌, List, [], ◌∷◌, length, Option, Some, None, get_or, set, get_or-set_other, get_or-set_same, refl, sym, ap, ◌∙◌, subst, inl, inr}
+use Rattle.std.proofs.Common.{◌≡◌, ℕ, suc, ◌<◌, ◌⊎◌, List, [], ◌∷◌, length, Option, Some, None, get_or, set, get_or-set_other, get_or-set_same, refl, sym, ap, ◌∙◌, subst, inl, inr}
 use Rattle.std.specs.List.{slice_get}
 use Rattle.std.specs.Option.{option_and_then}
 use Rattle.std.proofs.lemmas.Bool.{cases_eq}
 use Rattle.ml_types.specs.declared.node.TyId.{TyId}
 use Rattle.ml_types.specs.declared.node.TyNode.{TyNode}
 use Rattle.ml_types.specs.declared.node.TyNode.TheVariants.{Var}
-use Rattle.ml_types.specs.Types.{Head, head_of, parts_of}
+use Rattle.ml_types.specs.Types.{parts_of}
 use Rattle.hm_unify.specs.Solutions.{Bound, Pairs, node_at, number_at, link, Ends, here, there}
 use Rattle.hm_unify.specs.Walks.{Walk, WalkAll, WalkPairs, same_node, same_variable, left, right, parts, done, step, all_walked, next_pair}
-use Rattle.hm_unify.proofs.Ends.{Ends-end, link-number, number-var, var-number}
+use Rattle.hm_unify.proofs.Ends.{Ends-end, link-number, var-number}
 use Rattle.hm_terms.specs.Stores.{Reaches, at_end, in_part}
 
 -- a variable that one of the first nodes has

@@ -1,16 +1,15 @@
 -- Why an item has no types, from what came of its steps.
-use Rattle.std.proofs.Common.{◌≡◌, Bool, true, false, None, ℕ, ◌+◌, ◌<◌, ◌≤◌, List, [], ◌∷◌, ◌++◌, length, take, Some, refl, sym, ap, ◌∙◌, subst, inl, inr, arith}
+use Rattle.std.proofs.Common.{◌≡◌, Bool, true, false, None, ℕ, ◌+◌, ◌<◌, List, ◌++◌, length, take, Some, refl, sym, ap, ◌∙◌, subst, inr, arith}
 use Rattle.std.specs.List.{slice_get}
 use Rattle.std.specs.Bool.{MatchBool}
-use Rattle.std.proofs.lemmas.Option.{slice_get_within}
 use Rattle.oxml_base.specs.declared.span.Span.{Span}
 use Rattle.oxml_base.specs.Rules.{rule_number}
 use Rattle.ml_types.specs.declared.declared.DeclInfo.{DeclInfo}
 use Rattle.ml_types.specs.Types.{Leaf}
 use Rattle.ml_typing.specs.declared.equation.Step.{Step}
 use Rattle.ml_typing.specs.Terms.{Context}
-use Rattle.ml_typing.specs.Typing.{Assignment, Pair, Satisfies, pairs, step_pairs}
-use Rattle.ml_typing.specs.Refusals.{Fits, IsSmall, IsTypeOf, HasSolution, IsRuleOf, IsUnsolved, IsTooLarge}
+use Rattle.ml_typing.specs.Typing.{Assignment, Satisfies, pairs, step_pairs}
+use Rattle.ml_typing.specs.Refusals.{Fits, IsSmall, HasSolution, IsRuleOf, IsTooLarge}
 use Rattle.hm_terms.specs.Stores.{Store}
 use Rattle.hm_terms.specs.Contexts.{IsRead}
 use Rattle.hm_unify.specs.States.{IsSound}
@@ -18,7 +17,7 @@ use Rattle.hm_infer.specs.declared.error.InferErr.{InferErr}
 use Rattle.hm_infer.specs.declared.error.InferErr.TheVariants.{Refused, Limit, NoMemory}
 use Rattle.hm_infer.specs.declared.run.Outcome.TheVariants.{Holds, Unsolved, Large}
 use Rattle.hm_infer.specs.declared.run.Progress.{Progress}
-use Rattle.hm_infer.specs.Running.{IsShown, Fails, Outgrows, Knowing, Stops, Runs}
+use Rattle.hm_infer.specs.Running.{IsShown, Outgrows, Knowing, Stops, Runs}
 use Rattle.hm_infer.specs.Sizes.{HasLarge, MakesLarge, IsFirstLarge}
 use Rattle.hm_infer.specs.Answers.{Checked, IsItemFault, IsLimitAt, IsRefusedAt}
 use Rattle.hm_infer.proofs.Narrowing.{shown_satisfies, makes_large}

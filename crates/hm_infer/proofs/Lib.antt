@@ -1,3 +1,4 @@
+pub mod Shown
 mod Lists
 mod Tabling
 mod Faults
@@ -12,13 +13,16 @@ pub mod Decided
 pub mod Stable
 pub mod Apart
 pub mod Readings
-pub mod Shown
-pub mod Declaring
-pub mod Declarations
 pub mod Agreements
 pub mod Lowerings
 pub mod StepRuns
 pub mod Larges
 pub mod Narrowing
+pub mod Keeping
+pub mod Behind
+pub mod Comparing
+pub mod Leaving
+pub mod Declaring
+pub mod Declarations
 pub mod Starting
 pub mod Uses

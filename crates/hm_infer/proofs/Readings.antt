@@ -10,16 +10,15 @@ use Rattle.ml_types.specs.declared.declared.DeclInfo.{DeclInfo}
 use Rattle.ml_typing.specs.declared.equation.Unknown.{Unknown}
 use Rattle.ml_typing.specs.Terms.{Context}
 use Rattle.ml_typing.specs.Typing.{Pair}
-use Rattle.hm_unify.specs.Solutions.{Bound, Pairs, node_at, variable_of, link, Ends, here, there, Stands}
+use Rattle.hm_unify.specs.Solutions.{Bound, Pairs, node_at, variable_of, link, here, there, Stands}
 use Rattle.hm_unify.specs.States.{Equated}
 use Rattle.hm_unify.proofs.Ends.{link-number}
 use Rattle.hm_terms.specs.Stores.{Store, state, SameNames, IsClosed, Reaches, at_end, in_part, IsOwn, IsReady, Grows, Forgets}
-use Rattle.hm_terms.specs.Shapes.{Holds}
 use Rattle.hm_terms.specs.Contexts.{Shows, ShowsAny, op_place, IsRead}
 use Rattle.hm_terms.proofs.Contexts as contexts
-use Rattle.hm_infer.specs.Running.{HoldPairs}
+use Rattle.hm_infer.specs.Running.{HoldPairs, Keeps}
 use Rattle.hm_infer.proofs.Stable.{SameBelow, stands_stays}
-use Rattle.hm_infer.proofs.Apart.{IsEarly, IsApart, Stays, PairsOwn, apart_reaches, walk_pairs_stays}
+use Rattle.hm_infer.proofs.Apart.{IsApart, Stays, PairsOwn, apart_reaches, walk_pairs_stays}
 
 pub read_grows : (old new : Store) (d : List DeclInfo) (c : Context) → IsRead old d c → Grows old new → IsRead new d c
 read_grows old new d c k g = contexts.read_grows old new d c k g
@@ -110,11 +109,14 @@ pairs_own s [] (i ∷ ids) k = absurd k
 pairs_own s (p ∷ ps) [] k = absurd k
 pairs_own s (p ∷ ps) (i ∷ ids) k = ((k.0.within, k.0.own), (k.1.within, k.1.own), pairs_own s ps ids k.2)
 
-pub read_equated : (old new : Store) (d : List DeclInfo) (c : Context) (ps : List Pair) (ids : Pairs) → IsRead old d c → HoldPairs old ps ids → Equated (state old) (state new) ids → ((u : Unknown) → new.ids u ≡ old.ids u) → SameNames old new → IsRead new d c
-read_equated old new d c ps ids k hold e same names = read_moves old new d c k ready shows names.schemes names.operations names.declared (record {
-  links = λ x y h p. (let below = before x h in let q = k.closed_links x y below (sym (link_is x below) ∙ p) in omega (arith, q, names.mark));
-  parts = λ x p n i h at q. (let w = k.closed_parts x p n i (before x h) (sym (ap (λ (ns : List TyNode). node_at ns x) e.nodes) ∙ at) q in omega (arith, w, names.mark));
-})
+equated : (old new : Store) (d : List DeclInfo) (c : Context) (ps : List Pair) (ids : Pairs) → IsRead old d c → HoldPairs old ps ids → Equated (state old) (state new) ids → ((u : Unknown) → new.ids u ≡ old.ids u) → SameNames old new → IsRead new d c × Keeps old new
+equated old new d c ps ids k hold e same names = (
+  read_moves old new d c k ready shows names.schemes names.operations names.declared (record {
+    links = λ x y h p. (let below = before x h in let q = k.closed_links x y below (sym (link_is x below) ∙ p) in omega (arith, q, names.mark));
+    parts = λ x p n i h at q. (let w = k.closed_parts x p n i (before x h) (sym (ap (λ (ns : List TyNode). node_at ns x) e.nodes) ∙ at) q in omega (arith, w, names.mark));
+  }),
+  shows,
+)
   where
     before : (x : TyId) → x.0 < new.mark → x.0 < old.mark
     before x h = omega (arith, h, names.mark)
@@ -162,3 +164,9 @@ read_equated old new d c ps ids k hold e same names = read_moves old new d c k r
             apart_reaches old.nodes new.bound old.mark (Owned old) stays.apart x n (k.ready.within u x p, k.ready.own u x p)
             (subst (λ (ns : List TyNode). Reaches ns new.bound x n) e.nodes reaches)
             (b.0, before b.0 b.1, sym (ap (λ (ns : List TyNode). node_at ns b.0) e.nodes) ∙ b.2)
+
+pub read_equated : (old new : Store) (d : List DeclInfo) (c : Context) (ps : List Pair) (ids : Pairs) → IsRead old d c → HoldPairs old ps ids → Equated (state old) (state new) ids → ((u : Unknown) → new.ids u ≡ old.ids u) → SameNames old new → IsRead new d c
+read_equated old new d c ps ids k hold e same names = (equated old new d c ps ids k hold e same names).0
+
+pub keeps_equated : (old new : Store) (d : List DeclInfo) (c : Context) (ps : List Pair) (ids : Pairs) → IsRead old d c → HoldPairs old ps ids → Equated (state old) (state new) ids → ((u : Unknown) → new.ids u ≡ old.ids u) → SameNames old new → Keeps old new
+keeps_equated old new d c ps ids k hold e same names = (equated old new d c ps ids k hold e same names).1

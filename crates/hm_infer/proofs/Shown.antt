@@ -1,6 +1,6 @@
 -- The types for which ids stand: they are there, they are one each, and they are the most general of
 -- all that fit what the solver knows.
-use Rattle.std.proofs.Common.{◌≡◌, ℕ, zero, suc, ◌+◌, ◌<◌, ◌≤◌, ◌⊎◌, List, [], ◌∷◌, length, Option, Some, None, get_or, refl, sym, ap, ◌∙◌, subst, inl, inr, arith}
+use Rattle.std.proofs.Common.{◌≡◌, ℕ, zero, suc, ◌<◌, ◌≤◌, ◌⊎◌, List, [], ◌∷◌, length, Option, Some, None, get_or, refl, sym, ap, ◌∙◌, subst, inl, inr, arith}
 use Rattle.std.specs.List.{slice_get}
 use Rattle.std.specs.Option.{option_and_then}
 use Rattle.std.proofs.lemmas.Bool.{cases_lt, cases_eq}
@@ -10,14 +10,14 @@ use Rattle.ml_types.specs.declared.node.TyNode.{TyNode}
 use Rattle.ml_types.specs.declared.node.TyNode.TheVariants.{Var, Con, Tuple, Arrow}
 use Rattle.ml_types.specs.Types.{Head, head_of, parts_of, Tree, Leaf, Node, Trees, Nil, Cons, trees, tree_size, trees_size}
 use Rattle.ml_typing.specs.declared.equation.Unknown.{Unknown}
-use Rattle.ml_typing.specs.Typing.{Assignment, Pair, Satisfies, at_types, all_at_types, Occurs, IsInstance, IsPrincipal}
+use Rattle.ml_typing.specs.Typing.{Assignment, Pair, Satisfies, at_types, all_at_types, IsInstance, IsPrincipal}
 use Rattle.hm_unify.specs.Solutions.{Bound, node_at, link, Ends, here, there, Solves, Stands, variable, built, StandAll, none, more}
 use Rattle.hm_unify.specs.States.{IsTabled, IsSound}
 use Rattle.hm_unify.specs.Closing.{end_at}
 use Rattle.hm_unify.proofs.Ends.{Ends-unique, Ends-end_at, Ends-within, head-link, var-number, link-within, link-number, number-var}
 use Rattle.hm_unify.proofs.Starts.{Ends-same}
 use Rattle.hm_terms.specs.Stores.{Store, Reading, IsReady, Grows}
-use Rattle.hm_terms.proofs.Growth.{Longer, longer, node_same, ends_back, end_within, stands_grow, stands_within}
+use Rattle.hm_terms.proofs.Growth.{Longer, longer, node_same, ends_back, end_within, stands_grow}
 use Rattle.hm_infer.specs.Running.{HasNoIds, Agrees, IsShown}
 
 -- ---- an id stands for one tree
@@ -25,7 +25,7 @@ use Rattle.hm_infer.specs.Running.{HasNoIds, Agrees, IsShown}
 head_unique : (nodes : List TyNode) (e g : TyId) (n m : TyNode) → e ≡ g → node_at nodes e ≡ Some n → node_at nodes g ≡ Some m → n ≡ m
 head_unique nodes e g n m same p q = let w : Some n ≡ Some m = sym p ∙ ap (node_at nodes) same ∙ q in cc
 
-leaf_inverse : (nodes : List TyNode) (bound : Bound) (x : TyId) (v : Tree) (e : TyId) (n : ℕ) → Stands nodes bound x v → Ends nodes bound x e → node_at nodes e ≡ Some (Var n) → v ≡ Leaf n
+pub leaf_inverse : (nodes : List TyNode) (bound : Bound) (x : TyId) (v : Tree) (e : TyId) (n : ℕ) → Stands nodes bound x v → Ends nodes bound x e → node_at nodes e ≡ Some (Var n) → v ≡ Leaf n
 leaf_inverse nodes bound x v e n (variable y g m ends at) is p =
     let w : Var m ≡ Var n = head_unique nodes g e (Var m) (Var n) (Ends-unique nodes bound y g e ends is) at p in
     let k : m ≡ n = cc in
@@ -34,12 +34,12 @@ leaf_inverse nodes bound x v e n (built y g m h ts ends at head all) is p =
     let w : m ≡ Var n = head_unique nodes g e m (Var n) (Ends-unique nodes bound y g e ends is) at p in
     absurd (let k : None ≡ Some h = ap head_of (sym w) ∙ head in cc)
 
-record Built (nodes : List TyNode) (bound : Bound) (n : TyNode) (h : Head) (v : Tree) : Type 0 where
-  parts : Trees
-  stand : StandAll nodes bound (parts_of n) parts
-  is : v ≡ Node h parts
+pub record Built (nodes : List TyNode) (bound : Bound) (n : TyNode) (h : Head) (v : Tree) : Type 0 where
+  pub parts : Trees
+  pub stand : StandAll nodes bound (parts_of n) parts
+  pub is : v ≡ Node h parts
 
-node_inverse : (nodes : List TyNode) (bound : Bound) (x : TyId) (v : Tree) (e : TyId) (n : TyNode) (h : Head) → Stands nodes bound x v → Ends nodes bound x e → node_at nodes e ≡ Some n → head_of n ≡ Some h → Built nodes bound n h v
+pub node_inverse : (nodes : List TyNode) (bound : Bound) (x : TyId) (v : Tree) (e : TyId) (n : TyNode) (h : Head) → Stands nodes bound x v → Ends nodes bound x e → node_at nodes e ≡ Some n → head_of n ≡ Some h → Built nodes bound n h v
 node_inverse nodes bound x v e n h (variable y g m ends at) is p q =
     let w : Var m ≡ n = head_unique nodes g e (Var m) n (Ends-unique nodes bound y g e ends is) at p in
     absurd (let k : None ≡ Some h = ap head_of w ∙ q in cc)
@@ -49,7 +49,7 @@ node_inverse nodes bound x v e n h (built y g m i ts ends at head all) is p q =
     let j : i ≡ h = cc in
     record { parts = ts; stand = subst (λ (z : TyNode). StandAll nodes bound (parts_of z) ts) w all; is = ap (λ z. Node z ts) j }
 
-none_inverse : (nodes : List TyNode) (bound : Bound) (xs : List TyId) (vs : Trees) → StandAll nodes bound xs vs → xs ≡ [] → vs ≡ Nil
+pub none_inverse : (nodes : List TyNode) (bound : Bound) (xs : List TyId) (vs : Trees) → StandAll nodes bound xs vs → xs ≡ [] → vs ≡ Nil
 none_inverse nodes bound xs vs none h = refl
 none_inverse nodes bound xs vs (more x ys w us one all) h = absurd cc
 

@@ -1,10 +1,9 @@
 -- What stands at the ids from before an item stays, while the item's own variables are bound.
-use Rattle.std.proofs.Common.{◌≡◌, ℕ, suc, ◌<◌, List, [], ◌∷◌, length, Option, Some, None, refl, sym, ap, ◌∙◌}
+use Rattle.std.proofs.Common.{◌≡◌, ℕ, suc, ◌<◌, List, [], ◌∷◌, Some, refl, ◌∙◌}
 use Rattle.std.specs.List.{slice_get}
 use Rattle.ml_types.specs.declared.node.TyId.{TyId}
 use Rattle.ml_types.specs.declared.node.TyNode.{TyNode}
-use Rattle.ml_types.specs.declared.node.TyNode.TheVariants.{Var}
-use Rattle.ml_types.specs.Types.{Head, head_of, parts_of, Tree, Trees}
+use Rattle.ml_types.specs.Types.{parts_of, Tree, Trees}
 use Rattle.hm_unify.specs.Solutions.{Bound, node_at, link, Ends, here, there, Stands, variable, built, StandAll, none, more}
 
 -- the ids below a mark are closed under parts and bindings, and are the same in two states

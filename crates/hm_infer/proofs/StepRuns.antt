@@ -77,6 +77,10 @@ pairs_next c steps n step e = rw add-one (by steps n e)
     by (s ∷ ss) zero e = let q : s ≡ step = cc in append-nil (step_pairs c s) ∙ ap (step_pairs c) q
     by (s ∷ ss) (suc n) e = ap (λ (ps : List Pair). step_pairs c s ++ ps) (by ss n e) ∙ sym (append_assoc (step_pairs c s) (pairs c (take n ss)) (step_pairs c step))
 
+pub steps_start : (s : Store) (decls : List DeclInfo) (c : Context) (steps : List Step) → IsRead s decls c → Agrees s [] → Knowing s decls c (pairs c (take 0 steps))
+steps_start s decls c [] k agrees = record { read = k; agrees = agrees }
+steps_start s decls c (step ∷ steps) k agrees = record { read = k; agrees = agrees }
+
 -- one step more holds
 pub steps_next : (old new : Store) (decls : List DeclInfo) (c : Context) (steps : List Step) (n : ℕ) (step : Step) (o : Outcome) → slice_get steps n ≡ Some step → Knowing old decls c (pairs c (take n steps)) → ((b : Context) (before : List Pair) → IsRead old decls b → Agrees old before → Comes new decls b before step o) → o ≡ Went → Knowing new decls c (pairs c (take (n + 1) steps))
 steps_next old new decls c steps n step o at k comes went =

@@ -1,5 +1,5 @@
 -- What stands at an id under bindings stands there in their table without any.
-use Rattle.std.proofs.Common.{◌≡◌, ◌⊎◌, inl, inr, length-append, ℕ, zero, suc, ◌+◌, ◌<◌, List, [], ◌∷◌, ◌++◌, length, Option, Some, None, get_or, refl, sym, ap, ◌∙◌, subst, arith}
+use Rattle.std.proofs.Common.{◌≡◌, ◌⊎◌, inl, inr, length-append, ℕ, ◌+◌, ◌<◌, List, [], ◌∷◌, ◌++◌, length, Option, Some, None, get_or, sym, ap, ◌∙◌, subst, arith}
 use Rattle.std.specs.List.{slice_get}
 use Rattle.std.specs.Option.{option_and_then}
 use Rattle.std.proofs.lemmas.Option.{slice_get_within}
@@ -8,8 +8,7 @@ use Rattle.ml_types.specs.declared.node.TyNode.{TyNode}
 use Rattle.ml_types.specs.declared.node.TyNode.TheVariants.{Var, Con, Tuple, Arrow}
 use Rattle.ml_types.specs.declared.node.Scheme.{Scheme}
 use Rattle.ml_types.specs.declared.node.TyTable.{TyTable}
-use Rattle.ml_types.specs.Types.{Head, head_of, parts_of, Tree, Trees}
-use Rattle.ml_typing.specs.declared.typed.Typed.{Typed}
+use Rattle.ml_types.specs.Types.{parts_of, Tree, Trees}
 use Rattle.hm_unify.specs.Solutions.{Bound, node_at, number_at, variable_of, link, Ends, here, there, Stands, variable, built, StandAll, none, more}
 use Rattle.hm_unify.specs.States.{State, IsHead, IsTableOf}
 use Rattle.hm_unify.proofs.Ends.{Ends-unique, link-number, number-var}

@@ -1,5 +1,5 @@
 -- What the answers of inference mean.
-use Rattle.std.specs.Prelude.{◌≡◌, ◌⊎◌, ℕ, ◌+◌, Bool, true, cond, nat_eq, List, [], ◌∷◌, map, take, Option, Some, None, slice_get}
+use Rattle.std.specs.Prelude.{◌≡◌, ◌⊎◌, ℕ, ◌+◌, cond, nat_eq, List, [], ◌∷◌, map, take, Option, Some, None, slice_get}
 use Rattle.std.specs.HashMap.{get}
 use Rattle.oxml_base.specs.Rules.{rule_number}
 use Rattle.oxml_base.specs.declared.span.Span.{Span}

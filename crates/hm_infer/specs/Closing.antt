@@ -1,5 +1,5 @@
 -- What an item leaves.
-use Rattle.std.specs.Prelude.{◌≡◌, ◌⊎◌, ℕ, Bool, true, false, cond, nat_eq, List, [], ◌∷◌, Option, Some, None}
+use Rattle.std.specs.Prelude.{◌≡◌, ℕ, Bool, true, false, cond, nat_eq, List, [], ◌∷◌, Option, Some, None}
 use Rattle.std.specs.HashMap.{get}
 use Rattle.oxml_base.specs.declared.span.Span.{Span}
 use Rattle.ml_types.specs.declared.node.TyId.{TyId}
@@ -18,6 +18,7 @@ pub record Closes (old new : Store) (binders : List ℕ) : Type 0 where
   pub nodes : new.nodes ≡ middle.nodes
   pub bound : new.bound ≡ middle.bound
   pub operations : new.operations ≡ middle.operations
+  pub declared : (n : ℕ) → new.declared n ≡ middle.declared n
   pub named : (b : ℕ) → is_among binders b ≡ true → (x : TyId) × (middle.ids (Binder b) ≡ Some x) × (new.schemes b ≡ Some x)
   pub others : (b : ℕ) → is_among binders b ≡ false → new.schemes b ≡ old.schemes b
 

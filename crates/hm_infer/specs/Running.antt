@@ -13,7 +13,7 @@ use Rattle.ml_typing.specs.Refusals.{HasSolution, NoSolution}
 use Rattle.hm_unify.specs.Solutions.{Pairs, Stands}
 use Rattle.hm_terms.specs.Stores.{Store, Reading, Grows}
 use Rattle.hm_terms.specs.Shapes.{Holds}
-use Rattle.hm_terms.specs.Contexts.{IsRead}
+use Rattle.hm_terms.specs.Contexts.{IsRead, Shows}
 use Rattle.hm_infer.specs.declared.run.Outcome.{Outcome}
 use Rattle.hm_infer.specs.declared.run.Outcome.TheVariants.{Holds as Went, Unsolved, Large}
 use Rattle.hm_infer.specs.declared.run.Progress.{Progress}
@@ -44,6 +44,10 @@ pub record Agrees (s : Store) (ps : List Pair) : Type 0 where
 -- a gives each unknown that has come up the type for which its id stands
 abbrev pub IsShown : Store → Assignment → Type 0
 IsShown s a = (u : Unknown) (x : TyId) → s.ids u ≡ Some x → Stands s.nodes s.bound x (a u)
+
+-- what was there before the item still stands for what it did
+abbrev pub Keeps : Store → Store → Type 0
+Keeps old new = (x : TyId) (w : Tree) → Shows old x w → Shows new x w
 
 -- behind these pairs the step has no solution, and the span is that of its first part whose equation
 -- leaves none

@@ -5,7 +5,7 @@ ghost use Rattle.ml_typing.specs.Typing.{Assignment};
 ghost use Rattle.ml_typing.specs.Refusals.{CanCompare};
 ghost use Rattle.hm_terms.specs.Stores.{store};
 ghost use Rattle.hm_infer.specs.Running.{IsShown};
-ghost use Rattle.hm_infer.specs.Compared.{FirstBad};
+ghost use Rattle.hm_infer.specs.Compared.{FirstBad, IsPlain, IsGoodAt, IsBadAt};
 
 use hm_terms::Solver;
 use ml_types::TyNode;
@@ -19,8 +19,30 @@ fn can_compare(solver: &Solver, unknown: Unknown) -> Result<bool, NoMemory>
     // The operands of a step that was run have a type.
     let id = solver.known(unknown).ok_or(NoMemory)?;
     match solver.head(id) {
-        Some(TyNode::Con(number, args)) => Ok(*number < 5 && args.is_empty()),
-        _ => Ok(false),
+        Some(node) => Ok(is_plain(node)),
+        None => Ok(false),
+    }
+}
+
+/// Whether a node is one of the first five declarations without arguments.
+fn is_plain(node: &TyNode) -> bool
+    ensures { MatchBool result (IsPlain node.now) (IsPlain node.now → ⊥) }
+{
+    match node {
+        TyNode::Var(_) => false,
+        TyNode::Con(number, args) => *number < 5 && args.is_empty(),
+        TyNode::Tuple(_) => false,
+        TyNode::Arrow { .. } => false,
+    }
+}
+
+/// Whether a step compares nothing, or values that can be compared.
+fn is_good(solver: &Solver, step: &Step) -> Result<bool, NoMemory>
+    ensures { IfOk result (λ good. (a : Assignment) → IsShown (store solver.now) a → MatchBool good (IsGoodAt step.now a) (IsBadAt step.now a)) }
+{
+    match step.compared {
+        Some(operands) => can_compare(solver, operands),
+        None => Ok(true),
     }
 }
 
@@ -29,10 +51,8 @@ pub fn bad_comparison(solver: &Solver, steps: &[Step]) -> Result<Option<Span>, N
     ensures { IfOk result (λ bad. (a : Assignment) → IsShown (store solver.now) a → FirstBad steps.now a bad) }
 {
     for step in steps {
-        if let Some(operands) = step.compared {
-            if !can_compare(solver, operands)? {
-                return Ok(Some(step.span));
-            }
+        if !is_good(solver, step)? {
+            return Ok(Some(step.span));
         }
     }
     Ok(None)

@@ -5,9 +5,9 @@ ghost use Rattle.ml_typing.specs.Terms.{Context};
 ghost use Rattle.ml_typing.specs.Typing.{Assignment, ItemSteps, behind_all, steps_of_item};
 ghost use Rattle.hm_terms.specs.Stores.{store};
 ghost use Rattle.hm_terms.specs.Contexts.{IsRead};
-ghost use Rattle.hm_infer.specs.Running.{HasNoIds, Runs};
+ghost use Rattle.hm_infer.specs.Running.{HasNoIds, Runs, Keeps};
 ghost use Rattle.hm_infer.specs.Answers.{Checked, IsItemFault, IsLimitAt, IsRefusedAt, Behind, SomeBehind};
-ghost use Rattle.hm_infer.specs.Closing.{Leaves};
+ghost use Rattle.hm_infer.specs.Closing.{Compared, Leaves};
 
 use crate::comparisons::bad_comparison;
 use crate::error::InferErr;
@@ -51,6 +51,7 @@ impl Found {
 /// Runs the steps of an item, each of which must have a solution and make no type too large.
 fn check_item(solver: &mut Solver, d: &Decls, steps: &[Step]) -> Result<(), InferErr>
     ensures ok { OnOk result ((c : Context) → IsRead (store solver.old) d.now.types c → HasNoIds (store solver.old) → Checked (store solver.new) d.now.types c steps.now) }
+    ensures keeps { OnOk result ((c : Context) → IsRead (store solver.old) d.now.types c → HasNoIds (store solver.old) → Keeps (store solver.old) (store solver.new)) }
     ensures err { IfErr result (λ e. (c : Context) → IsRead (store solver.old) d.now.types c → HasNoIds (store solver.old) → IsItemFault c steps.now e) }
 {
     solver.sound();
@@ -62,6 +63,7 @@ fn check_item(solver: &mut Solver, d: &Decls, steps: &[Step]) -> Result<(), Infe
 #[tactic(auto, using(crate::proofs::Faults::judged_held))]
 fn judge(solver: &mut Solver, d: &Decls, steps: &[Step], progress: Progress) -> Result<(), InferErr>
     ensures ok { OnOk result ((c : Context) → Runs (store solver.old) d.now.types c steps.now progress → Checked (store solver.new) d.now.types c steps.now) }
+    ensures same { OnOk result (store solver.new ≡ store solver.old) }
     ensures err { IfErr result (λ e. (c : Context) → Runs (store solver.old) d.now.types c steps.now progress → IsItemFault c steps.now e) }
 {
     solver.sound();
@@ -128,8 +130,12 @@ pub fn infer_item(
 {
     let steps = item_steps(solver.alloc, s, item)?;
     let binders = item_binders(solver.alloc, item)?;
-    check_item(solver, d, steps.as_slice())?;
+    if let Err(error) = check_item(solver, d, steps.as_slice()) {
+        return Err(error);
+    }
+    solver.sound();
     leave_item(solver, steps.as_slice(), binders.as_slice(), found)?;
+    solver.sound();
     Ok(())
 }
 
@@ -142,13 +148,23 @@ fn leave_item(
 ) -> Result<(), NoMemory>
     ensures { OnOk result (Leaves (store solver.old) (store solver.new) steps.now binders.now found.old found.new) }
 {
-    solver.sound();
-    if found.bad.is_none() {
-        found.bad = bad_comparison(solver, steps)?;
-    }
+    found.bad = first_bad(solver, steps, found.bad)?;
     note_nodes(solver, steps, &mut found.nodes)?;
     close_item(solver, binders)?;
-    solver.sound();
     solver.next_item();
     Ok(())
+}
+
+/// The first bad comparison of the items before, or else of these steps.
+fn first_bad(
+    solver: &Solver,
+    steps: &[Step],
+    before: Option<Span>,
+) -> Result<Option<Span>, NoMemory>
+    ensures { IfOk result (Compared (store solver.now) steps.now before) }
+{
+    match before {
+        Some(span) => Ok(Some(span)),
+        None => bad_comparison(solver, steps),
+    }
 }

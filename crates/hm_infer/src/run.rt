@@ -5,7 +5,7 @@ ghost use Rattle.ml_typing.specs.Terms.{Context};
 ghost use Rattle.ml_typing.specs.Typing.{Pair, pair_of};
 ghost use Rattle.hm_terms.specs.Stores.{store, Grows, IsReady};
 ghost use Rattle.hm_terms.specs.Contexts.{IsRead};
-ghost use Rattle.hm_infer.specs.Running.{HoldPairs, LowersPairs, Agrees, Comes, Runs};
+ghost use Rattle.hm_infer.specs.Running.{HoldPairs, LowersPairs, Agrees, Comes, Runs, Keeps};
 
 use hm_terms::{Solver, type_of};
 use hm_unify::UnifyErr;
@@ -91,7 +91,8 @@ fn note_node(solver: &mut Solver, node: Option<u32>) -> Result<(), NoMemory>
 
 /// Makes the equations of a step hold, if they have a solution.
 pub fn run_step(solver: &mut Solver, d: &Decls, step: &Step) -> Result<Outcome, NoMemory>
-    ensures { IfOk result (λ o. (c : Context) (before : List Pair) → IsRead (store solver.old) d.now.types c → Agrees (store solver.old) before → Comes (store solver.new) d.now.types c before step.now o) }
+    ensures comes { IfOk result (λ o. (c : Context) (before : List Pair) → IsRead (store solver.old) d.now.types c → Agrees (store solver.old) before → Comes (store solver.new) d.now.types c before step.now o) }
+    ensures keeps { OnOk result ((c : Context) → IsRead (store solver.old) d.now.types c → Keeps (store solver.old) (store solver.new)) }
 {
     let pairs = pairs_of(solver, d, step)?;
     match solver.equate(pairs.as_slice()) {
@@ -111,7 +112,8 @@ pub fn run_step(solver: &mut Solver, d: &Decls, step: &Step) -> Result<Outcome, 
 
 /// Runs the steps from the first on, until one does not hold.
 pub fn run_steps(solver: &mut Solver, d: &Decls, steps: &[Step]) -> Result<Progress, NoMemory>
-    ensures { IfOk result (λ p. (c : Context) → IsRead (store solver.old) d.now.types c → Agrees (store solver.old) [] → Runs (store solver.new) d.now.types c steps.now p) }
+    ensures runs { IfOk result (λ p. (c : Context) → IsRead (store solver.old) d.now.types c → Agrees (store solver.old) [] → Runs (store solver.new) d.now.types c steps.now p) }
+    ensures keeps { OnOk result ((c : Context) → IsRead (store solver.old) d.now.types c → Agrees (store solver.old) [] → Keeps (store solver.old) (store solver.new)) }
 {
     for number in 0..steps.len() {
         let outcome = run_step(solver, d, &steps[number])?;

@@ -1,5 +1,5 @@
 //! What an item leaves: the schemes of its names and the types of its nodes.
-ghost use Rattle.std.specs.Prelude.{◌≡◌, OnOk, nat_eq};
+ghost use Rattle.std.specs.Prelude.{◌≡◌, ◌∷◌, [], OnOk, nat_eq};
 ghost use Rattle.std.specs.HashMap.{get};
 ghost use Rattle.hm_terms.specs.Stores.{store};
 ghost use Rattle.hm_infer.specs.Closing.{Closes, Notes};
@@ -30,11 +30,19 @@ pub fn note_nodes(
     ensures { OnOk result (Notes (store solver.now) steps.now (get nat_eq nodes.old) (get nat_eq nodes.new)) }
 {
     for step in steps {
-        if let Some(node) = step.node {
-            // The node of a step that was run has a type.
-            let id = solver.known(Unknown::Node(node)).ok_or(NoMemory)?;
-            nodes.insert(node, id)?;
-        }
+        note_step(solver, step, nodes)?;
+    }
+    Ok(())
+}
+
+/// Notes the type of the node of a step.
+fn note_step(solver: &Solver, step: &Step, nodes: &mut HashMap<u32, TyId>) -> Result<(), NoMemory>
+    ensures { OnOk result (Notes (store solver.now) (step.now ∷ []) (get nat_eq nodes.old) (get nat_eq nodes.new)) }
+{
+    if let Some(node) = step.node {
+        // The node of a step that was run has a type.
+        let id = solver.known(Unknown::Node(node)).ok_or(NoMemory)?;
+        nodes.insert(node, id)?;
     }
     Ok(())
 }

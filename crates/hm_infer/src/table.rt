@@ -43,7 +43,6 @@ fn slots_behind(slots: u32, node: &TyNode) -> Result<u32, NoMemory>
 }
 
 /// The types that were found: those of the nodes below `count`, and the schemes of the names among them.
-#[tactic(auto, using(crate::proofs::Tabling::fills))]
 pub fn typed(solver: Solver, count: u32, nodes: &HashMap<u32, TyId>) -> Result<Typed, NoMemory>
     ensures { IfOk result (λ t. (noted named : ℕ → Option Tree) → ((n : ℕ) → ShowsAny (store solver) (get nat_eq nodes.now n) (noted n)) → ((b : ℕ) → ShowsAny (store solver) ((store solver).schemes b) (named b)) → Fills noted named count t) }
 {
@@ -85,7 +84,6 @@ fn schemes_of(solver: &Solver, count: u32) -> Result<Items<Scheme>, NoMemory>
 }
 
 /// Appends the scheme of the name of this number, where there is one.
-#[tactic(auto, using(crate::proofs::Tabling::skips, crate::proofs::Tabling::pushes))]
 fn push_scheme(solver: &Solver, number: u32, schemes: &mut Items<Scheme>) -> Result<(), NoMemory>
     ensures { OnOk result ((named : ℕ → Option Tree) → ((b : ℕ) → ShowsAny (store solver.now) ((store solver.now).schemes b) (named b)) → Collects (store solver.now).nodes (store solver.now).bound named number schemes.old → Collects (store solver.now).nodes (store solver.now).bound named (number + 1) schemes.new) }
 {

@@ -6,4 +6,4 @@ use Rattle.hm_infer.proofs.limit.run_held.Goals as goal
 
 pub returns-in-Holds : goal.returns-in-Holds
 returns-in-Holds c = λ e before read agrees.
-    subst (λ (o : Outcome). Comes (store c.run_step.new.solver) c.args.d.now.types e before c.args.step.now o) c.in-Holds.is (c.in_ok-run_step.ensures e before read agrees)
+    subst (λ (o : Outcome). Comes (store c.run_step.new.solver) c.args.d.now.types e before c.args.step.now o) c.in-Holds.is (c.in_ok-run_step.ensures.comes e before read agrees)
