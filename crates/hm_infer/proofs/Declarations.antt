@@ -1,19 +1,18 @@
 -- Walks that declare types.
-use Rattle.std.proofs.Common.{◌≡◌, ℕ, ◌+◌, ◌<◌, ◌⊎◌, List, [], ◌∷◌, length, map, Option, Some, None, Result, Ok, Err, IfOk, IfSome, get_or, refl, sym, ap, ◌∙◌, subst, inl, inr, ⊎_elim, arith}
+use Rattle.std.proofs.Common.{◌≡◌, ℕ, ◌<◌, ◌⊎◌, List, [], ◌∷◌, length, map, Option, Some, None, get_or, refl, sym, ap, ◌∙◌, subst, inl, inr, arith}
 use Rattle.std.specs.List.{slice_get}
 use Rattle.std.proofs.lemmas.Bool.{cases_eq}
 use Rattle.ml_types.specs.declared.node.TyId.{TyId}
 use Rattle.ml_types.specs.declared.node.TyNode.{TyNode}
-use Rattle.ml_types.specs.declared.node.TyNode.TheVariants.{Var, Con, Tuple, Arrow}
 use Rattle.ml_types.specs.declared.declared.DeclInfo.{DeclInfo}
 use Rattle.ml_types.specs.Types.{parts_of, Tree, Leaf, Node, Trees, Nil, Cons}
 use Rattle.ml_typing.specs.declared.equation.Unknown.{Unknown}
 use Rattle.ml_typing.specs.declared.equation.Unknown.TheVariants.{Fresh}
 use Rattle.ml_typing.specs.Terms.{Shape, at_fresh}
-use Rattle.ml_typing.specs.Typing.{Assignment, Reads, abbreviated, at_types, tree_at}
+use Rattle.ml_typing.specs.Typing.{Reads, abbreviated, at_types, tree_at}
 use Rattle.hm_unify.specs.Solutions.{Bound, node_at, Solves, Stands}
 use Rattle.hm_unify.specs.States.{IsSound}
-use Rattle.hm_terms.specs.Stores.{Store, Reading, Reaches, IsBefore, IsOwn, IsClosed, IsReady, Grows, Knows, Declares}
+use Rattle.hm_terms.specs.Stores.{Store, Reaches, IsOwn, IsClosed, IsReady, Grows, Knows, Declares}
 use Rattle.hm_terms.specs.Shapes.{Holds}
 use Rattle.hm_terms.proofs.Growth.{grows_same, grows_then}
 use Rattle.hm_terms.proofs.Holding.{knows_lowers}

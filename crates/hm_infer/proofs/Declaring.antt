@@ -6,7 +6,7 @@ use Rattle.ml_types.specs.declared.node.TyNode.{TyNode}
 use Rattle.ml_types.specs.declared.node.TyNode.TheVariants.{Var, Con, Tuple, Arrow}
 use Rattle.ml_types.specs.Types.{Head, ConHead, TupleHead, ArrowHead, head_of, parts_of, Tree, Leaf, Node, Trees, Nil, Cons, trees}
 use Rattle.ml_typing.specs.declared.equation.Unknown.TheVariants.{Fresh}
-use Rattle.ml_typing.specs.Terms.{Shape, Is, Make, Shapes, no_shapes, shape_and, shapes, with_shapes, all_with_shapes, at_fresh, shape_at, no_shape}
+use Rattle.ml_typing.specs.Terms.{Shape, Is, Make, Shapes, shape_and, shapes, with_shapes, all_with_shapes, at_fresh, shape_at}
 use Rattle.ml_typing.specs.Typing.{Assignment, tree_of, trees_of, at_types, all_at_types, tree_at}
 use Rattle.hm_unify.specs.Solutions.{Stands, variable}
 use Rattle.hm_unify.specs.States.{IsSound}
@@ -179,8 +179,7 @@ expansion_found old new declared body parts x sound i = λ first k. answer first
         let root = k.each body i.root i.has_root in
         let stands = expands_stands old k.ready sound (declared body) i.root root in
         let l = i.lowers (map (part_shape declared) parts) (declared body) k.ready (hold_ids old declared k.each parts i.arguments i.are) stands in
-        let named = named_at old (tree_at (map declared parts)) (named_argument old declared parts (named_ids old declared k.each parts i.arguments i.are)) (declared body) in
-        (
+        let named = named_at old (tree_at (map declared parts)) (named_argument old declared parts (named_ids old declared k.each parts i.arguments i.are)) (declared body) in (
           expanded_grows first old new declared l.grows k,
           record {
             holds = subst (λ (h : Shape). Holds new h x) (with_at (shape_at (map (part_shape declared) parts)) (tree_at (map declared parts)) (argument_at declared parts) (declared body)) l.holds;

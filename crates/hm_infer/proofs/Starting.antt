@@ -1,19 +1,19 @@
 -- The solver before the first item: no variable is bound, the ids of the table stand for the declared
 -- types, and each operation has its type.
-use Rattle.std.proofs.Common.{◌≡◌, ℕ, zero, suc, ◌<◌, List, [], ◌∷◌, ◌++◌, length, Option, Some, None, get_or, refl, sym, ap, ◌∙◌, subst, arith, append_assoc}
+use Rattle.std.proofs.Common.{◌≡◌, ℕ, zero, suc, List, [], ◌∷◌, ◌++◌, length, Option, Some, None, get_or, refl, sym, ap, ◌∙◌, subst, arith, append_assoc}
 use Rattle.std.specs.List.{slice_get}
 use Rattle.std.specs.Option.{option_and_then}
 use Rattle.std.proofs.lemmas.List.{append-nil}
 use Rattle.ml_types.specs.declared.node.TyId.{TyId}
 use Rattle.ml_types.specs.declared.node.TyNode.{TyNode}
-use Rattle.ml_types.specs.declared.node.TyNode.TheVariants.{Var, Con, Tuple, Arrow}
-use Rattle.ml_types.specs.Types.{Head, ConHead, TupleHead, ArrowHead, head_of, parts_of, Tree, Leaf, Nil, Cons, trees}
+use Rattle.ml_types.specs.declared.node.TyNode.TheVariants.{Var, Con, Arrow}
+use Rattle.ml_types.specs.Types.{ConHead, ArrowHead, Tree, Leaf, Nil, Cons}
 use Rattle.ml_types.specs.declared.declared.DeclInfo.{DeclInfo}
 use Rattle.ml_typing.specs.declared.equation.Unknown.{Unknown}
 use Rattle.ml_tree.specs.declared.reference.Op.{Op}
 use Rattle.ml_tree.specs.declared.reference.Op.TheVariants.{PrintString, PrintInt, PrintChar, PrerrString, StringOfInt, IntOfChar, CharOfInt, StringLength, StringGet, Exit, Failwith}
 use Rattle.ml_typing.specs.Typing.{plain_type, arrow_type, operation_type, first_context}
-use Rattle.hm_unify.specs.Solutions.{Bound, node_at, number_at, link, here, Stands, variable, built, StandAll, none, more}
+use Rattle.hm_unify.specs.Solutions.{Bound, node_at, number_at, link, here, Stands, variable, built, none, more}
 use Rattle.hm_unify.specs.States.{IsTable, IsNew}
 use Rattle.hm_unify.proofs.Ends.{link-number}
 use Rattle.hm_terms.specs.Stores.{Store, state, AddsNode, AddsOperation, IsClosed, Forgets}

@@ -15,9 +15,10 @@ use oxml_base::{Items, NoMemory};
 use sqlite_items::at;
 use std::collections::HashMap;
 
-/// How many nodes may be made for large types. Thirty declarations as `type 'a t = 'a s s` would make 2^30
-/// nodes, of a type that no value ever has, and may stand in a program that never uses them. A declared
-/// type that is not expanded has no id, and its use is answered by `NoMemory`.
+/// How many nodes may be made, beside one for each of the table's, before large types are given up. Thirty
+/// declarations as `type 'a t = 'a s s` would make 2^30 nodes, of a type that no value ever has, and may
+/// stand in a program that never uses them. A declared type that is given up has no id, and its use is
+/// answered by `NoMemory`.
 const LIMIT: u64 = 65_536;
 
 /// How many nodes the type of a value has at most.
@@ -110,7 +111,10 @@ fn declare_from(
     ensures { OnOk result (DeclaresMore d.now.types table.now.nodes (store solver.old) (store solver.new)) }
 {
     let mut stack = Vec::new(solver.alloc);
-    stack.push(Frame { id: root, closing: false })?;
+    stack.push(Frame {
+        id: root,
+        closing: false,
+    })?;
     for _step in 0..u64::MAX {
         let Some(frame) = stack.pop() else {
             return Ok(());
@@ -157,7 +161,10 @@ fn push_needed(
         return Ok(())
     };
     if let Some(body) = body_of(d, node) {
-        stack.push(Frame { id: body, closing: false })?;
+        stack.push(Frame {
+            id: body,
+            closing: false,
+        })?;
     }
     match node {
         TyNode::Var(_) => Ok(()),
@@ -170,7 +177,10 @@ fn push_needed(
 /// Pushes parts that are to be met.
 fn push_parts(stack: &mut Vec<Frame>, parts: &[TyId]) -> Result<(), NoMemory> {
     for part in parts {
-        stack.push(Frame { id: *part, closing: false })?;
+        stack.push(Frame {
+            id: *part,
+            closing: false,
+        })?;
     }
     Ok(())
 }
@@ -213,7 +223,7 @@ fn declare(
     solver.declare(ty, id)
 }
 
-/// Whether more nodes may be made for large types. All others are not more than the table's.
+/// Whether large types may have more nodes.
 fn has_room(newest: u32, table: &TyTable) -> bool {
     let count = table.nodes.as_slice().len();
     (newest as u64).saturating_sub(count as u64) <= LIMIT
@@ -290,8 +300,8 @@ fn variable(solver: &Solver, number: u32) -> Option<TyId>
     }
 }
 
-/// The id of an abbreviation whose body and arguments have ids. A large body is given up where there is
-/// no room: no value has its type.
+/// The id of an abbreviation whose body and arguments have ids. Where there is no room, a body with more
+/// nodes than the type of a value has at most is given up: the type has as many.
 #[tactic(auto, using(crate::proofs::Declaring::none_found))]
 fn expanded(
     solver: &mut Solver,

@@ -1,5 +1,3 @@
-use Rattle.std.proofs.Common.{List, ◌≡◌, subst}
-use Rattle.ml_types.specs.declared.node.TyId.{TyId}
 use Rattle.hm_terms.specs.Stores.{store}
 use Rattle.hm_terms.specs.Copies.{AreCopies}
 use Rattle.hm_infer.proofs.Declaring.{variable_found, con_found, tuple_found, arrow_found, some_ids}

@@ -1,8 +1,5 @@
-use Rattle.std.proofs.Common.{◌≡◌, OnOk, Option, IfSome, None, Some, subst, sym}
+use Rattle.std.proofs.Common.{subst}
 use Rattle.std.proofs.lemmas.Result.{on_ok_weaker}
-use Rattle.ml_types.specs.declared.node.TyId.{TyId}
-use Rattle.ml_types.specs.Types.{Tree}
-use Rattle.ml_typing.specs.Typing.{Reads}
 use Rattle.hm_terms.specs.Stores.{store}
 use Rattle.hm_infer.specs.Declaring.{Finds}
 use Rattle.hm_infer.proofs.Declarations.{declares_found, declares_any}

@@ -1,4 +1,3 @@
-use Rattle.std.proofs.Common.{◌≡◌, subst}
 use Rattle.hm_terms.specs.Stores.{store}
 use Rattle.hm_terms.specs.Copies.{AreCopies}
 use Rattle.hm_infer.proofs.Declaring.{some_ids, expansion_at}

@@ -1,6 +1,6 @@
 use Rattle.hm_terms.specs.Stores.{store}
 use Rattle.hm_infer.specs.Declaring.{IsBare}
-use Rattle.hm_infer.proofs.Starting.{new_bare, no_table, first_read}
+use Rattle.hm_infer.proofs.Starting.{new_bare, first_read}
 use Rattle.hm_infer.proofs.operations.first_solver.Goals as goal
 
 pub returns-clause-read : goal.returns-clause-read
