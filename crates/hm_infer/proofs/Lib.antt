@@ -22,5 +22,7 @@ pub mod Keeping
 pub mod Behind
 pub mod Comparing
 pub mod Leaving
+pub mod Declaring
+pub mod Declarations
 pub mod Starting
 pub mod Uses

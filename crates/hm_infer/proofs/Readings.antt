@@ -33,13 +33,11 @@ record IsClosedBelow (s : Store) : Type 0 where
   links : (x y : TyId) → x.0 < s.mark → link s.nodes s.bound x ≡ Some y → y.0 < s.mark
   parts : (x p : TyId) (n : TyNode) (i : ℕ) → x.0 < s.mark → node_at s.nodes x ≡ Some n → slice_get (parts_of n) i ≡ Some p → p.0 < s.mark
 
-read_moves : (old new : Store) (d : List DeclInfo) (c : Context) → IsRead old d c → IsReady new → ((x : TyId) (w : Tree) → Shows old x w → Shows new x w) → ((b : ℕ) → new.schemes b ≡ old.schemes b) → new.operations ≡ old.operations → IsClosedBelow new → IsRead new d c
-read_moves old new d c k r f schemes operations closed = record {
+read_moves : (old new : Store) (d : List DeclInfo) (c : Context) → IsRead old d c → IsReady new → ((x : TyId) (w : Tree) → Shows old x w → Shows new x w) → ((b : ℕ) → new.schemes b ≡ old.schemes b) → new.operations ≡ old.operations → ((n : ℕ) → new.declared n ≡ old.declared n) → IsClosedBelow new → IsRead new d c
+read_moves old new d c k r f schemes operations declared closed = record {
   ready = r;
   decls_are = k.decls_are;
-  abbreviations = λ i q x p e. f x (c.declared x) (k.abbreviations i q x p e);
-  arguments = λ i j l q z a e g h. f a.ty (c.declared a.ty) (k.arguments i j l q z a e g h);
-  fields = λ i j q z p e. f z.arg.ty (c.declared z.arg.ty) (k.fields i j q z p e);
+  declared = λ x y p. f y (c.declared x) (k.declared x y (sym (declared x.0) ∙ p));
   schemes = λ b. subst (λ (o : Option TyId). ShowsAny new o (c.scheme b)) (sym (schemes b)) (shows_any old new f (old.schemes b) (c.scheme b) (k.schemes b));
   operations = λ op x p. f x (c.operation op) (k.operations op x (ap (λ (xs : List TyId). slice_get xs (op_place op)) (sym operations) ∙ p));
   closed_links = closed.links;
@@ -60,7 +58,7 @@ ready_forgets old new r f = record {
 }
 
 pub read_forgets : (old new : Store) (d : List DeclInfo) (c : Context) → IsRead old d c → Forgets old new → IsRead new d c
-read_forgets old new d c k f = read_moves old new d c k r shows f.schemes f.operations (record {
+read_forgets old new d c k f = read_moves old new d c k r shows f.schemes f.operations f.declared (record {
   links = λ x y h p. (let n = link-number new.nodes new.bound x y p in let w = r.closed.targets_in n.0 y n.2 in omega (arith, w, f.mark, ap length f.nodes));
   parts = λ x p n i h e q. (let w = r.closed.parts_in x n i p e q in omega (arith, w, f.mark, ap length f.nodes));
 })
@@ -113,7 +111,7 @@ pairs_own s (p ∷ ps) (i ∷ ids) k = ((k.0.within, k.0.own), (k.1.within, k.1.
 
 equated : (old new : Store) (d : List DeclInfo) (c : Context) (ps : List Pair) (ids : Pairs) → IsRead old d c → HoldPairs old ps ids → Equated (state old) (state new) ids → ((u : Unknown) → new.ids u ≡ old.ids u) → SameNames old new → IsRead new d c × Keeps old new
 equated old new d c ps ids k hold e same names = (
-  read_moves old new d c k ready shows names.schemes names.operations (record {
+  read_moves old new d c k ready shows names.schemes names.operations names.declared (record {
     links = λ x y h p. (let below = before x h in let q = k.closed_links x y below (sym (link_is x below) ∙ p) in omega (arith, q, names.mark));
     parts = λ x p n i h at q. (let w = k.closed_parts x p n i (before x h) (sym (ap (λ (ns : List TyNode). node_at ns x) e.nodes) ∙ at) q in omega (arith, w, names.mark));
   }),

@@ -1,19 +1,19 @@
 -- The solver before the first item: no variable is bound, the ids of the table stand for the declared
 -- types, and each operation has its type.
-use Rattle.std.proofs.Common.{◌≡◌, ℕ, zero, suc, ◌<◌, List, [], ◌∷◌, ◌++◌, length, Option, Some, None, get_or, ◌⊎◌, ◌≤◌, inl, inr, refl, sym, ap, ◌∙◌, subst, arith, append_assoc}
+use Rattle.std.proofs.Common.{◌≡◌, ℕ, zero, suc, List, [], ◌∷◌, ◌++◌, length, Option, Some, None, get_or, refl, sym, ap, ◌∙◌, subst, arith, append_assoc}
 use Rattle.std.specs.List.{slice_get}
 use Rattle.std.specs.Option.{option_and_then}
 use Rattle.std.proofs.lemmas.List.{append-nil}
-use Rattle.std.proofs.lemmas.Option.{slice_get_cases}
 use Rattle.ml_types.specs.declared.node.TyId.{TyId}
 use Rattle.ml_types.specs.declared.node.TyNode.{TyNode}
-use Rattle.ml_types.specs.declared.node.TyNode.TheVariants.{Var, Con, Tuple, Arrow}
-use Rattle.ml_types.specs.Types.{Head, ConHead, TupleHead, ArrowHead, head_of, parts_of, Tree, Leaf, Nil, Cons, trees}
+use Rattle.ml_types.specs.declared.node.TyNode.TheVariants.{Var, Con, Arrow}
+use Rattle.ml_types.specs.Types.{ConHead, ArrowHead, Tree, Leaf, Nil, Cons}
 use Rattle.ml_types.specs.declared.declared.DeclInfo.{DeclInfo}
+use Rattle.ml_typing.specs.declared.equation.Unknown.{Unknown}
 use Rattle.ml_tree.specs.declared.reference.Op.{Op}
 use Rattle.ml_tree.specs.declared.reference.Op.TheVariants.{PrintString, PrintInt, PrintChar, PrerrString, StringOfInt, IntOfChar, CharOfInt, StringLength, StringGet, Exit, Failwith}
-use Rattle.ml_typing.specs.Typing.{plain_type, arrow_type, operation_type, Reads, first_context}
-use Rattle.hm_unify.specs.Solutions.{Bound, node_at, number_at, link, here, Stands, variable, built, StandAll, none, more}
+use Rattle.ml_typing.specs.Typing.{plain_type, arrow_type, operation_type, first_context}
+use Rattle.hm_unify.specs.Solutions.{Bound, node_at, number_at, link, here, Stands, variable, built, none, more}
 use Rattle.hm_unify.specs.States.{IsTable, IsNew}
 use Rattle.hm_unify.proofs.Ends.{link-number}
 use Rattle.hm_terms.specs.Stores.{Store, state, AddsNode, AddsOperation, IsClosed, Forgets}
@@ -22,7 +22,8 @@ use Rattle.hm_terms.proofs.Growth.{Longer, stands_grow, stands_within}
 use Rattle.hm_terms.proofs.Pushes.{closed_push}
 use Rattle.hm_terms.proofs.Holding.{added_at}
 use Rattle.hm_infer.specs.declared.operations.Basic.{Basic}
-use Rattle.hm_infer.specs.Starts.{AreWithin, AddsFunction, IsFirst, AllStand, HaveTypes, AreBasic, operation_types}
+use Rattle.hm_infer.specs.Declaring.{IsBare, AreDeclared}
+use Rattle.hm_infer.specs.Starts.{AddsFunction, IsFirst, AllStand, HaveTypes, AreBasic, operation_types}
 
 -- ---- where no variable is bound
 
@@ -33,36 +34,6 @@ free_link_by m (Some n) f = f n
 free_link : (nodes : List TyNode) (m : Bound) → ((n : ℕ) → get_or m n None ≡ None) → (x : TyId) → link nodes m x ≡ None
 free_link nodes m f x = free_link_by m (number_at nodes x) f
 
-all_stand : (nodes : List TyNode) (m : Bound) (declared : TyId → Tree) (xs : List TyId) → ((i : ℕ) (p : TyId) → slice_get xs i ≡ Some p → Stands nodes m p (declared p)) → StandAll nodes m xs (trees declared xs)
-all_stand nodes m declared [] h = none
-all_stand nodes m declared (x ∷ xs) h = more x xs (declared x) (trees declared xs) (h 0 x refl) (all_stand nodes m declared xs (λ i p q. h (suc i) p q))
-
-built_stands : (nodes : List TyNode) (m : Bound) (declared : TyId → Tree) → ((n : ℕ) → get_or m n None ≡ None) → Reads nodes declared → (x : TyId) (n : TyNode) (h : Head) → node_at nodes x ≡ Some n → head_of n ≡ Some h → ((i : ℕ) (p : TyId) → slice_get (parts_of n) i ≡ Some p → Stands nodes m p (declared p)) → Stands nodes m x (declared x)
-built_stands nodes m declared free r x n h at head parts =
-    subst (Stands nodes m x) (sym (r.made x n h at head))
-    (built x x n h (trees declared (parts_of n)) (here x (free_link nodes m free x)) at head (all_stand nodes m declared (parts_of n) parts))
-
-node_stands : (nodes : List TyNode) (m : Bound) (declared : TyId → Tree) → ((n : ℕ) → get_or m n None ≡ None) → Reads nodes declared → (x : TyId) (n : TyNode) → node_at nodes x ≡ Some n → ((i : ℕ) (p : TyId) → slice_get (parts_of n) i ≡ Some p → Stands nodes m p (declared p)) → Stands nodes m x (declared x)
-node_stands nodes m declared free r x (Var v) at parts = subst (Stands nodes m x) (sym (r.variable x v at)) (variable x x v (here x (free_link nodes m free x)) at)
-node_stands nodes m declared free r x (Con d args) at parts = built_stands nodes m declared free r x (Con d args) (ConHead d (length args)) at refl parts
-node_stands nodes m declared free r x (Tuple ps) at parts = built_stands nodes m declared free r x (Tuple ps) (TupleHead (length ps)) at refl parts
-node_stands nodes m declared free r x (Arrow slot a b) at parts = built_stands nodes m declared free r x (Arrow slot a b) ArrowHead at refl parts
-
-node_of : (nodes : List TyNode) (x : TyId) → x.0 < length nodes → (n : TyNode) × (node_at nodes x ≡ Some n)
-node_of nodes x h = by (slice_get_cases nodes x.0).1
-  where
-    by : ((n : TyNode) × (x.0 < length nodes) × (slice_get nodes x.0 ≡ Some n) × (get_or nodes x.0 n ≡ n)) ⊎ ((length nodes ≤ x.0) × (slice_get nodes x.0 ≡ None)) → (n : TyNode) × (node_at nodes x ≡ Some n)
-    by (inl c) = (c.0, c.2)
-    by (inr c) = absurd (omega (arith, h, c.0))
-
--- the ids of a table stand for their types
-table_stands : (nodes : List TyNode) (m : Bound) (declared : TyId → Tree) (k : IsTable nodes) → ((n : ℕ) → get_or m n None ≡ None) → Reads nodes declared → (fuel : ℕ) (x : TyId) → k.height x < fuel → x.0 < length nodes → Stands nodes m x (declared x)
-table_stands nodes m declared k free r zero x h within = absurd (omega arith)
-table_stands nodes m declared k free r (suc fuel) x h within =
-    let n = node_of nodes x within in
-    node_stands nodes m declared free r x n.0 n.1
-    (λ i p q. (let falls = k.falls x n.0 i p n.1 q in table_stands nodes m declared k free r fuel p (omega (arith, h, falls)) (k.parts_in x n.0 i p n.1 q)))
-
 -- ---- the types of operations
 
 pub have_none : (s : Store) → IsFirst s → HaveTypes s s []
@@ -72,6 +43,7 @@ have_none s f = record {
   closed = f.closed;
   free = f.free;
   schemes = λ b. refl;
+  declared = λ n. refl;
   mark = refl;
   typed = subst (λ (xs : List TyId). AllStand s xs []) (sym f.no_operations) tt;
 }
@@ -94,6 +66,7 @@ have_node first s new n id ws h a = record {
   closed = closed_push s.nodes s.bound new.nodes new.bound n h.closed a.adds.nodes a.adds.bound a.within;
   free = λ i. a.adds.bound i ∙ h.free i;
   schemes = λ b. a.names.schemes b ∙ h.schemes b;
+  declared = λ n. a.names.declared n ∙ h.declared n;
   mark = a.names.mark ∙ h.mark;
   typed = subst (λ (xs : List TyId). AllStand new xs ws) (sym a.names.operations) (stand_node s new n id h.closed a s.operations ws h.typed);
 }
@@ -115,6 +88,7 @@ have_operation first s new id v ws h a one = record {
   closed = subst (λ (ns : List TyNode). IsClosed ns new.bound) (sym a.nodes) (subst (IsClosed s.nodes) (sym a.bound) h.closed);
   free = λ i. ap (λ (m : Bound). get_or m i None) a.bound ∙ h.free i;
   schemes = λ b. a.schemes b ∙ h.schemes b;
+  declared = λ n. a.declared n ∙ h.declared n;
   mark = a.mark ∙ h.mark;
   typed = subst (λ (xs : List TyId). AllStand new xs (ws ++ v ∷ [])) (sym a.operations) (stand_push s new id v a one s.operations ws h.typed);
 }
@@ -226,18 +200,38 @@ operation_at StringGet = refl
 operation_at Exit = refl
 operation_at Failwith = refl
 
-pub new_first : (table : List TyNode) (s : Store) → IsTable table → IsNew table (state s) → s.operations ≡ [] → IsFirst s
-new_first table s k n o = record {
-  closed = record {
-    parts_in = (subst IsTable (sym n.nodes) k).parts_in;
-    targets_in = λ i y h. absurd (let e : None ≡ Some y = sym (n.free i) ∙ h in cc);
-  };
-  free = n.free;
-  no_operations = o;
+-- a solver over no table is bare
+pub new_bare : (table : List TyNode) (s : Store) → table ≡ [] → IsNew table (state s) → s.mark ≡ length table → ((u : Unknown) → s.ids u ≡ None) → ((b : ℕ) → s.schemes b ≡ None) → s.operations ≡ [] → ((n : ℕ) → s.declared n ≡ None) → IsBare s
+new_bare table s e n mark ids schemes operations declared = record {
+  nodes = n.nodes ∙ e;
+  bound = n.first e;
+  ids = ids;
+  schemes = schemes;
+  operations = operations;
+  declared = declared;
+  mark = mark ∙ ap length e;
 }
 
-pub first_read : (table : List TyNode) (first s new : Store) (decls : List DeclInfo) (declared : TyId → Tree) → IsTable table → IsNew table (state first) → first.operations ≡ [] → ((b : ℕ) → first.schemes b ≡ None) → (IsFirst first → HaveTypes first s operation_types) → Forgets s new → AreWithin (length table) decls → Reads table declared → IsRead new decls (first_context decls declared)
-first_read table first s new decls declared k n o schemes types f within reads = record {
+pub no_table : (nodes : List TyNode) → nodes ≡ [] → IsTable nodes
+no_table nodes e = record {
+  parts_in = λ x n i p at q. absurd (none x n at);
+  height = λ x. 0;
+  falls = λ x n i p at q. absurd (none x n at);
+}
+  where
+    none : (x : TyId) (n : TyNode) → node_at nodes x ≡ Some n → ⊥
+    none x n at = let q : None ≡ Some n = ap (λ (ns : List TyNode). node_at ns x) (sym e) ∙ at in cc
+
+-- the operations are added where the declared types are from before
+pub declared_first : (bare s first : Store) (declared : TyId → Tree) → IsBare bare → AreDeclared bare s declared → Forgets s first → IsFirst first
+declared_first bare s first declared b d f = record {
+  closed = subst (λ (ns : List TyNode). IsClosed ns first.bound) (sym f.nodes) (subst (IsClosed s.nodes) (sym f.bound) d.ready.closed);
+  free = λ n. ap (λ (m : Bound). get_or m n None) f.bound ∙ d.free n;
+  no_operations = f.operations ∙ d.operations ∙ b.operations;
+}
+
+pub first_read : (bare mid first s new : Store) (decls : List DeclInfo) (declared : TyId → Tree) → IsBare bare → AreDeclared bare mid declared → Forgets mid first → (IsFirst first → HaveTypes first s operation_types) → Forgets s new → IsRead new decls (first_context decls declared)
+first_read bare mid first s new decls declared b d g types f = record {
   ready = record {
     closed = closed;
     mark_within = omega (arith, f.mark, ap length f.nodes);
@@ -245,17 +239,15 @@ first_read table first s new decls declared k n o schemes types f within reads =
     own = λ u x p. absurd (let q : None ≡ Some x = sym (f.none u) ∙ p in cc);
   };
   decls_are = refl;
-  abbreviations = λ i d x p q. declared_shows x (within.abbreviations i d x p q);
-  arguments = λ i j l d q a e g h. declared_shows a.ty (within.arguments i j l d q a e g h);
-  fields = λ i j d z p q. declared_shows z.arg.ty (within.fields i j d z p q);
-  schemes = λ b. subst (λ (z : Option TyId). ShowsAny new z None) (sym (f.schemes b ∙ h.schemes b ∙ schemes b)) refl;
+  declared = λ x y p. shows y (declared x) (declared_stands x y p);
+  schemes = λ n. subst (λ (z : Option TyId). ShowsAny new z None) (sym (f.schemes n ∙ h.schemes n ∙ g.schemes n ∙ d.schemes n ∙ b.schemes n)) refl;
   operations = λ op x p. shows x (operation_type op) (typed_at s s.operations operation_types h.typed (op_place op) x (operation_type op) (ap (λ (xs : List TyId). slice_get xs (op_place op)) (sym f.operations) ∙ p) (operation_at op));
   closed_links = λ x y l e. (let i = link-number new.nodes new.bound x y e in let w = closed.targets_in i.0 y i.2 in omega (arith, w, f.mark, ap length f.nodes));
   closed_parts = λ x p m i l e q. (let w = closed.parts_in x m i p e q in omega (arith, w, f.mark, ap length f.nodes));
 }
   where
     start : IsFirst first
-    start = new_first table first k n o
+    start = declared_first bare mid first declared b d g
 
     h : HaveTypes first s operation_types
     h = types start
@@ -269,9 +261,9 @@ first_read table first s new decls declared k n o schemes types f within reads =
       stands = subst (λ (ns : List TyNode). Stands ns new.bound x w) (sym f.nodes) (subst (λ (m : Bound). Stands s.nodes m x w) (sym f.bound) e);
     }
 
-    declared_shows : (x : TyId) → x.0 < length table → Shows new x (declared x)
-    declared_shows x i =
+    declared_stands : (x y : TyId) → new.declared x.0 ≡ Some y → Stands s.nodes s.bound y (declared x)
+    declared_stands x y p =
         let l : Longer first s = record { tail = h.more; nodes = h.nodes; bound = λ j. h.free j ∙ sym (start.free j); mark = h.mark } in
-        let t : IsTable first.nodes = subst IsTable (sym n.nodes) k in
-        let at : Stands first.nodes first.bound x (declared x) = table_stands first.nodes first.bound declared t start.free (subst (λ (ns : List TyNode). Reads ns declared) (sym n.nodes) reads) (suc (t.height x)) x (omega arith) (omega (arith, i, ap length n.nodes)) in
-        shows x (declared x) (stands_grow first s l start.closed x (declared x) at)
+        let there : mid.declared x.0 ≡ Some y = sym (f.declared x.0 ∙ h.declared x.0 ∙ g.declared x.0) ∙ p in
+        let at : Stands first.nodes first.bound y (declared x) = subst (λ (ns : List TyNode). Stands ns first.bound y (declared x)) (sym g.nodes) (subst (λ (m : Bound). Stands mid.nodes m y (declared x)) (sym g.bound) (d.stand x y there)) in
+        stands_grow first s l start.closed y (declared x) at

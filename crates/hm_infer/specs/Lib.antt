@@ -1,5 +1,6 @@
 pub mod Running
 pub mod Starts
+pub mod Declaring
 pub mod Sizes
 pub mod Compared
 pub mod Closing

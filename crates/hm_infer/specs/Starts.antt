@@ -1,24 +1,14 @@
 -- What inference begins with.
-use Rattle.std.specs.Prelude.{◌≡◌, ℕ, ◌<◌, List, ◌++◌, [], ◌∷◌, Some, None, slice_get, slice_index_or}
+use Rattle.std.specs.Prelude.{◌≡◌, ℕ, List, ◌++◌, [], ◌∷◌, None, slice_index_or}
 use Rattle.ml_types.specs.declared.node.TyId.{TyId}
 use Rattle.ml_types.specs.declared.node.TyNode.{TyNode}
 use Rattle.ml_types.specs.declared.node.TyNode.TheVariants.{Arrow}
-use Rattle.ml_types.specs.declared.declared.DeclInfo.{DeclInfo}
-use Rattle.ml_types.specs.declared.declared.ConInfo.{ConInfo}
-use Rattle.ml_types.specs.declared.declared.ArgInfo.{ArgInfo}
-use Rattle.ml_types.specs.declared.declared.FieldInfo.{FieldInfo}
 use Rattle.ml_types.specs.Types.{Tree, Leaf}
 use Rattle.ml_tree.specs.declared.reference.Op.TheVariants.{PrintString, PrintInt, PrintChar, PrerrString, StringOfInt, IntOfChar, CharOfInt, StringLength, StringGet, Exit, Failwith}
 use Rattle.ml_typing.specs.Typing.{plain_type, operation_type}
 use Rattle.hm_unify.specs.Solutions.{Stands}
 use Rattle.hm_terms.specs.Stores.{Store, AddsNode, AddsOperation, IsClosed}
 use Rattle.hm_infer.specs.declared.operations.Basic.{Basic}
-
--- the types of declarations lie in the table
-pub record AreWithin (count : ℕ) (decls : List DeclInfo) : Type 0 where
-  pub abbreviations : (i : ℕ) (d : DeclInfo) (x : TyId) → slice_get decls i ≡ Some d → d.alias ≡ Some x → x.0 < count
-  pub arguments : (i j k : ℕ) (d : DeclInfo) (q : ConInfo) (a : ArgInfo) → slice_get decls i ≡ Some d → slice_get d.cons j ≡ Some q → slice_get q.args k ≡ Some a → a.ty.0 < count
-  pub fields : (i j : ℕ) (d : DeclInfo) (f : FieldInfo) → slice_get decls i ≡ Some d → slice_get d.fields j ≡ Some f → f.arg.ty.0 < count
 
 -- the next operation is a function from one type to another
 pub record AddsFunction (old new : Store) (from to : TyId) : Type 0 where
@@ -48,6 +38,7 @@ pub record HaveTypes (old new : Store) (types : List Tree) : Type 0 where
   pub closed : IsClosed new.nodes new.bound
   pub free : (n : ℕ) → slice_index_or new.bound n None ≡ None
   pub schemes : (b : ℕ) → new.schemes b ≡ old.schemes b
+  pub declared : (n : ℕ) → new.declared n ≡ old.declared n
   pub mark : new.mark ≡ old.mark
   pub typed : AllStand new new.operations types
 

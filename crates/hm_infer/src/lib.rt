@@ -2,6 +2,7 @@
 #![tactic(auto)]
 
 mod comparisons;
+mod declared;
 mod error;
 mod items;
 mod limit;

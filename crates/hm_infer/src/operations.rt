@@ -1,19 +1,18 @@
 //! The solver before the first item: the declared types, and those of the predefined operations.
-ghost use Rattle.std.specs.Prelude.{IfOk, OnOk, List, [], length};
+ghost use Rattle.std.specs.Prelude.{IfOk, OnOk, []};
 ghost use Rattle.ml_types.specs.declared.node.TyId.{TyId as TyIdValue};
 ghost use Rattle.ml_types.specs.declared.node.TyNode.TheVariants.{Con};
-ghost use Rattle.ml_types.specs.declared.declared.DeclInfo.{DeclInfo};
 ghost use Rattle.ml_types.specs.Types.{Tree};
 ghost use Rattle.ml_typing.specs.Typing.{Reads, first_context};
-ghost use Rattle.hm_unify.specs.States.{IsTable};
 ghost use Rattle.hm_terms.specs.Stores.{store, AddsNode};
 ghost use Rattle.hm_terms.specs.Contexts.{IsRead};
-ghost use Rattle.hm_infer.specs.Starts.{AreWithin, AddsFunction, IsFirst, HaveTypes, AreBasic, operation_types};
+ghost use Rattle.hm_infer.specs.Starts.{AddsFunction, IsFirst, HaveTypes, AreBasic, operation_types};
 ghost use Rattle.hm_infer.specs.Running.{HasNoIds};
 
+use crate::declared::declare_all;
 use crate::table::slots_of;
 use hm_terms::Solver;
-use ml_types::{TyId, TyNode, TyTable};
+use ml_types::{Decls, TyId, TyNode, TyTable};
 use oxml_base::{Items, NoMemory};
 use std::alloc::Global;
 
@@ -28,14 +27,20 @@ struct Basic {
     any: TyId,
 }
 
-/// A solver before the first item, over the declared types.
-pub fn first_solver(alloc: Global, table: TyTable) -> Result<Solver, NoMemory>
-    requires { IsTable table.nodes }
-    ensures read { IfOk result (λ s. (decls : List DeclInfo) (declared : TyIdValue → Tree) → AreWithin (length table.nodes) decls → Reads table.nodes declared → IsRead (store s) decls (first_context decls declared)) }
+/// A solver before the first item: the declared types with their abbreviations expanded, and the types
+/// of the operations.
+#[tactic(auto, using(crate::proofs::Starting::no_table))]
+pub fn first_solver(alloc: Global, d: &Decls, table: &TyTable) -> Result<Solver, NoMemory>
+    ensures read { IfOk result (λ s. (declared : TyIdValue → Tree) → Reads d.now.types table.now.nodes declared → IsRead (store s) d.now.types (first_context d.now.types declared)) }
     ensures forgotten { IfOk result (λ s. HasNoIds (store s)) }
 {
-    let slots = slots_of(&table)?;
-    let mut solver = Solver::new(alloc, table, slots)?;
+    let slots = slots_of(table)?;
+    let none = TyTable {
+        nodes: Items::new(alloc),
+    };
+    let mut solver = Solver::new(alloc, none, slots)?;
+    declare_all(&mut solver, d, table)?;
+    solver.next_item();
     add_operations(&mut solver)?;
     solver.next_item();
     Ok(solver)
