@@ -1,0 +1,4 @@
+pub mod Expansions
+pub mod Chains
+pub mod Naming
+pub mod Readings
