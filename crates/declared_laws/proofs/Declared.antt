@@ -1,9 +1,8 @@
 -- Checked declarations: no abbreviation reaches itself, so that all of them can be expanded.
-use Rattle.std.proofs.Common.{◌≡◌, ℕ, zero, suc, ◌+◌, ◌<◌, ◌≤◌, ◌⊎◌, inl, inr, List, [], ◌∷◌, ◌++◌, map, length, Bool, true, Option, Some, None, slice_get, refl, sym, ap, ◌∙◌, subst, arith}
+use Rattle.std.proofs.Common.{◌≡◌, ℕ, zero, suc, ◌+◌, ◌<◌, ◌⊎◌, inl, inr, List, [], ◌∷◌, ◌++◌, map, length, Option, Some, None, slice_get, refl, sym, ap, ◌∙◌, subst, arith}
 use Rattle.std.specs.Prelude.{option_map}
 use Rattle.std.specs.List.{AllByRecursion}
 use Rattle.std.proofs.lemmas.Option.{slice_get_within, get_or_from_slice_get}
-use Rattle.oxml_base.specs.declared.refusal.Refusal.{Refusal}
 use Rattle.oxml_base.specs.declared.rule.Rule.TheVariants.{CyclicAbbreviation}
 use Rattle.ml_tree.specs.declared.scoped.Scoped.{Scoped}
 use Rattle.ml_tree.specs.declared.program.Item.{Item}
@@ -24,11 +23,11 @@ use Rattle.ml_mentions.specs.declared.mentions.Mention.TheVariants.{Named}
 use Rattle.ml_decls.specs.Lists.{IsIn}
 use Rattle.ml_decls.specs.Said.{Said, said, predefined, written, body_alias}
 use Rattle.ml_decls.specs.Tables.{HasType, Each, Says, AliasSays, Declares, tree_in, trees_of}
-use Rattle.ml_decls.specs.Offences.{Abbreviates, Reaches, at_once, through, Offends}
+use Rattle.ml_decls.specs.Offences.{Reaches, at_once, through}
 use Rattle.ml_decls.specs.Answers.{IsChecked}
 use Rattle.ml_decls.proofs.Members.{ImageAt, at_map}
 use Rattle.ml_typing.specs.Typing.{alias_of, Reads}
-use Rattle.declared_laws.proofs.Expansions.{numbers, expand, layers, is_shallow, layers-stable}
+use Rattle.declared_laws.proofs.Expansions.{numbers, expand, layers, layers-stable}
 use Rattle.declared_laws.proofs.Chains.{IsAcyclic, all_shallow}
 use Rattle.declared_laws.proofs.Naming.{IsMentioned, written_mentions}
 use Rattle.declared_laws.proofs.Readings.{bodies, readings}
