@@ -1,5 +1,5 @@
 -- Checked declarations: no abbreviation reaches itself, so that all of them can be expanded.
-use Rattle.std.proofs.Common.{◌≡◌, ℕ, zero, suc, ◌+◌, ◌<◌, ◌⊎◌, inl, inr, List, [], ◌∷◌, ◌++◌, map, length, Option, Some, None, slice_get, refl, sym, ap, ◌∙◌, subst, arith}
+use Rattle.std.proofs.Common.{◌≡◌, ℕ, zero, suc, ◌+◌, ◌<◌, ◌⊎◌, inl, inr, List, [], ◌∷◌, ◌++◌, map, length, true, Option, Some, None, slice_get, refl, sym, ap, ◌∙◌, subst, arith}
 use Rattle.std.specs.Prelude.{option_map}
 use Rattle.std.specs.List.{AllByRecursion}
 use Rattle.std.proofs.lemmas.Option.{slice_get_within, get_or_from_slice_get}
@@ -26,11 +26,13 @@ use Rattle.ml_decls.specs.Tables.{HasType, Each, Says, AliasSays, Declares, tree
 use Rattle.ml_decls.specs.Offences.{Reaches, at_once, through}
 use Rattle.ml_decls.specs.Answers.{IsChecked}
 use Rattle.ml_decls.proofs.Members.{ImageAt, at_map}
+use Rattle.ml_decls.proofs.Trees.{type_within}
 use Rattle.ml_typing.specs.Typing.{alias_of, Reads}
-use Rattle.declared_laws.proofs.Expansions.{numbers, expand, layers, layers-stable}
+use Rattle.declared_laws.proofs.Expansions.{numbers, expand, layers, is_shallow, layers-stable}
 use Rattle.declared_laws.proofs.Chains.{IsAcyclic, all_shallow}
 use Rattle.declared_laws.proofs.Naming.{IsMentioned, written_mentions}
 use Rattle.declared_laws.proofs.Readings.{bodies, readings}
+use Rattle.declared_laws.proofs.Unique.{same_types}
 
 -- ---- what stands at a number
 
@@ -118,6 +120,17 @@ says_alias nodes x None p e h = absurd cc
 says_alias nodes x (Some y) None e h = absurd h
 says_alias nodes x (Some y) (Some t) e h = let same : y ≡ x = cc in (t, refl, subst (λ z. HasType nodes z t) same h)
 
+-- what an abbreviation stands for is in the table
+alias_within : (types : List (ℕ × TyRef)) (ds : List Decl) (decls : List DeclInfo) (nodes : List TyNode) → Declares types ds decls nodes → (d : ℕ) (y : TyId) → alias_of (slice_get decls d) ≡ Some y → y.0 < length nodes
+alias_within types ds decls nodes declares d y e = by (slice_get decls d) refl e
+  where
+    by : (o : Option DeclInfo) → slice_get decls d ≡ o → alias_of o ≡ Some y → y.0 < length nodes
+    by None s q = absurd cc
+    by (Some info) s q =
+        let p : Partner (Says nodes) (predefined ++ map (said types) ds) d info = partner (Says nodes) decls (predefined ++ map (said types) ds) declares.say d info s in
+        let typed : (t : Tree) × (p.other.alias ≡ Some t) × HasType nodes y t = says_alias nodes y info.alias p.other.alias q p.related.alias in
+        type_within nodes y typed.0 typed.2
+
 -- every abbreviation of the table is one of the program
 comes : (types : List (ℕ × TyRef)) (ds : List Decl) (decls : List DeclInfo) (nodes : List TyNode) → Declares types ds decls nodes → (d : ℕ) (t : Tree) → bodies decls nodes d ≡ Some t → Comes types ds d t
 comes types ds decls nodes declares d t e =
@@ -183,15 +196,22 @@ acyclic text s decls table checked = record { below = below; at_once = edge; joi
         let itself : Reaches s.types s.program.items (c.place + 7) (c.place + 7) = subst (λ z. Reaches s.types s.program.items z z) c.number r in
         checked.sound (record { rule = CyclicAbbreviation; span = c.declaration.name }) (record { place = c.place; declaration = c.declaration; declared = c.stands; at_name = refl; itself = itself })
 
+-- no chain of abbreviations is longer than there are declarations
+shallow : (text : List ℕ) (s : Scoped) (decls : Decls) (table : TyTable) → IsChecked text s decls table → (d : ℕ) → is_shallow (bodies decls.types table.nodes) (length decls.types) d ≡ true
+shallow text s decls table checked d = all_shallow (bodies decls.types table.nodes) (length decls.types) (Reaches s.types s.program.items) (acyclic text s decls table checked) d
+
 pub reads_exist : (text : List ℕ) (s : Scoped) (decls : Decls) (table : TyTable) → IsChecked text s decls table → (declared : TyId → Tree) × Reads decls.types table.nodes declared
 reads_exist text s decls table checked =
     ((λ x. expand full (tree_in (trees_of table.nodes) x)), readings decls.types table.nodes checked.declares.before full stable)
   where
-    written_bodies : ℕ → Option Tree
-    written_bodies = bodies decls.types table.nodes
-
     full : ℕ → Option Tree
-    full = layers written_bodies (length decls.types)
+    full = layers (bodies decls.types table.nodes) (length decls.types)
 
-    stable : (d : ℕ) → full d ≡ option_map (expand full) (written_bodies d)
-    stable d = layers-stable written_bodies (length decls.types) d (all_shallow written_bodies (length decls.types) (Reaches s.types s.program.items) (acyclic text s decls table checked) d)
+    stable : (d : ℕ) → full d ≡ option_map (expand full) (bodies decls.types table.nodes d)
+    stable d = layers-stable (bodies decls.types table.nodes) (length decls.types) d (shallow text s decls table checked d)
+
+pub reads_unique : (text : List ℕ) (s : Scoped) (decls : Decls) (table : TyTable) → IsChecked text s decls table → (a b : TyId → Tree) → Reads decls.types table.nodes a → Reads decls.types table.nodes b → (x : TyId) → x.0 < length table.nodes → a x ≡ b x
+reads_unique text s decls table checked a b is_a is_b x less =
+    same_types decls.types table.nodes checked.declares.before a b is_a is_b
+    (alias_within s.types (declarations s.program.items) decls.types table.nodes checked.declares)
+    (length decls.types) (shallow text s decls table checked) x less

@@ -76,7 +76,7 @@ both_true : (a b : Bool) → (a && b) ≡ true → (a ≡ true) × (b ≡ true)
 both_true true b e = (refl, e)
 both_true false b e = absurd cc
 
-every-in : (p : ℕ → Bool) (ds : List ℕ) → every p ds ≡ true → (d : ℕ) → IsIn d ds → p d ≡ true
+pub every-in : (p : ℕ → Bool) (ds : List ℕ) → every p ds ≡ true → (d : ℕ) → IsIn d ds → p d ≡ true
 every-in p [] e d i = absurd i
 every-in p (x ∷ xs) e d (inl s) = ap p s ∙ (both_true (p x) (every p xs) e).0
 every-in p (x ∷ xs) e d (inr i) = every-in p xs (both_true (p x) (every p xs) e).1 d i

@@ -4,3 +4,4 @@ pub mod Naming
 pub mod Tables
 pub mod Readings
 pub mod Declared
+pub mod Unique

@@ -7,7 +7,7 @@ use Rattle.ml_types.specs.declared.node.TyNode.TheVariants.{Var, Con, Tuple, Arr
 use Rattle.ml_types.specs.Types.{Head, ConHead, TupleHead, ArrowHead, head_of, parts_of, Tree, Leaf, Node, Cons, trees}
 use Rattle.ml_decls.specs.Tables.{tree_in, tree_of, trees_from, trees_of, PartsBefore}
 
-trees_agree : (f g : TyId → Tree) (xs : List TyId) → ((k : ℕ) (p : TyId) → slice_get xs k ≡ Some p → f p ≡ g p) → trees f xs ≡ trees g xs
+pub trees_agree : (f g : TyId → Tree) (xs : List TyId) → ((k : ℕ) (p : TyId) → slice_get xs k ≡ Some p → f p ≡ g p) → trees f xs ≡ trees g xs
 trees_agree f g [] same = refl
 trees_agree f g (x ∷ xs) same = ap (λ z. Cons z (trees f xs)) (same 0 x refl) ∙ ap (Cons (g x)) (trees_agree f g xs (λ k p e. same (suc k) p e))
 

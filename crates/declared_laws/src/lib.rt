@@ -1,8 +1,8 @@
-//! What declarations declare: where no rule on them is violated, there are types of all ids of the
-//! table in which each abbreviation is the type that it stands for.
+//! What declarations declare: where no rule on them is violated, each id of the table has a type in
+//! which each abbreviation is the type that it stands for, and only one.
 #![tactic(auto)]
 
-ghost use Rattle.std.specs.Prelude.{ℕ, List};
+ghost use Rattle.std.specs.Prelude.{◌≡◌, ℕ, ◌<◌, List, length};
 ghost use Rattle.ml_tree.specs.declared.scoped.Scoped.{Scoped};
 ghost use Rattle.ml_types.specs.declared.declared.Decls.{Decls};
 ghost use Rattle.ml_types.specs.declared.node.TyId.{TyId};
@@ -16,4 +16,12 @@ ghost use Rattle.ml_typing.specs.Typing.{Reads};
 pub fn declared_types_exist()
     ensures { (text : List ℕ) (s : Scoped) (decls : Decls) (table : TyTable) → IsChecked text s decls table →
         (declared : TyId → Tree) × Reads decls.types table.nodes declared }
+{}
+
+/// These types are unique: whoever reads such declarations over the table gives each of its ids the
+/// same type.
+pub fn declared_types_are_unique()
+    ensures { (text : List ℕ) (s : Scoped) (decls : Decls) (table : TyTable) → IsChecked text s decls table →
+        (one other : TyId → Tree) → Reads decls.types table.nodes one → Reads decls.types table.nodes other →
+        (x : TyId) → x.0 < length table.nodes → one x ≡ other x }
 {}
