@@ -18,7 +18,7 @@ pub const PARTS: [&str; 37] = [
     "let f g = (g 1 + 1, $g$ 1 2)",
     "let x = $(1 + 2)$ 3",
     "let x = print_int $(print_int 1)$",
-    "let f x = fst $x$ + x",
+    "let f x = fst x + $x$",
     "let x = fst ($1$ 2, 3)",
     "let x = 1 :: [$\"a\"$ + 1]",
     "let x = 1 :: $[\"a\"]$",
@@ -27,7 +27,7 @@ pub const PARTS: [&str; 37] = [
     "let x = [1; $\"a\"$; 'c']",
     "let x = [1; 2; $'c'$]",
     "let x = [(1, 'a'); $('a', 1)$]",
-    "let f x = [x; (x, $x$ 1); (x, x + 1)]",
+    "let f x = [(x, x 1); (x, $x$ + 1)]",
     "type t = A of int let x = A $\"a\"$",
     "type t = P of int * string let x = P $(\"a\", 1)$",
     "type t = P of int * string let x = P (1 + $'a'$, 1)",
@@ -39,7 +39,7 @@ pub const PARTS: [&str; 37] = [
     "type r = {a : int; b : string} let f a = a ^ \"x\"; {$a$; b = 1}",
     "type 'a r = {v : 'a; w : 'a} let x = {v = 1; w = $'a'$}",
     "type r = {a : int} let x = $(1)$.a",
-    "type r = {a : int} type s = {b : r} let f x = ($x$.a + 1, x.b)",
+    "type r = {a : int} type s = {b : r} let f x = (x.a + 1, $x$.b)",
 ];
 
 /// Operators.
@@ -66,8 +66,8 @@ pub const OPERATORS: [&str; 25] = [
     "let x = [1] @ $2$",
     "let f x = (x + 1, $x$ ^ \"a\")",
     "let f x y = (x = y, x + 1, $y$ ^ \"a\")",
-    "type int = A let x = A + 1",
-    "let x = 'a' lsl 1",
+    "type int = A let x = $A$ + 1",
+    "let x = $'a'$ lsl 1",
     "let x = 1 mod $true$",
 ];
 
@@ -80,14 +80,14 @@ pub const CHOICES: [&str; 25] = [
     "let f x = $if x then 1$",
     "let f x = if $(x + 1)$ then 1",
     "let f x = (if x then print_int $\"a\"$; 1)",
-    "let f x = if x then (x : bool) else $x + 1$",
+    "let f x = if x then (x : bool) else $x$ + 1",
     "let x = match 1 with $\"a\"$ -> 2",
     "let x = match 1 with 1 -> 2 | $\"a\"$ -> 3",
     "let f x = match x with 1 -> 2 | $\"a\"$ -> 3",
     "let f x = match x with 1 -> 2 | _ -> $\"a\"$",
     "let f x = match x with 1 -> 2 | 2 -> $'b'$ | _ -> \"a\"",
-    "let f x = match x with 1 -> x ^ \"a\" | $'b'$ -> \"c\"",
-    "let f x = match $x$ 1 with 1 -> x + 1 | _ -> 2",
+    "let f x = match x with 1 -> $x$ ^ \"a\" | 'b' -> \"c\"",
+    "let f x = match x 1 with 1 -> $x$ + 1 | _ -> 2",
     "let f x = match x with n when $1$ -> 2 | _ -> \"a\"",
     "let f x = match x with n when n + 1 -> $n$ ^ \"a\" | _ -> 'c'",
     "let f x = match x with 1 -> 'a' | n when $n$ -> \"b\"",
@@ -111,17 +111,17 @@ pub const PATTERNS: [&str; 20] = [
     "let f x = match x with 1 :: $['a']$ -> 2",
     "let f x = match x with 1 :: $'a' :: _$ -> 2",
     "let f x = match x with [1; $'a'$; \"b\"] -> 2",
-    "let f x = match x with $(1 : char)$ -> 2",
+    "let f x = match x with ($1$ : char) -> 2",
     "type r = {a : int; b : char} let f ({a = $\"x\"$; b = 1}) = 1",
     "type r = {a : int; b : char} let f ({b = $1$; a = 1}) = 1",
     "type r = {a : int} let f x = match x with 1 -> 2 | ${a = _}$ -> 3",
     "let f (x, 1) = x let y = f $(1, 'a')$",
     "let f ((x : int) as y) = $y$ ^ \"a\"",
     "let f x = match x with (1, 'a') -> 1 | $('a', 1)$ -> 2",
-    "let f x = match x with $1 as y$ -> y | 'a' -> x",
-    "let f x = match x with (a, b) -> a + $b$ ^ \"c\"",
+    "let f x = match x with 1 as y -> y | $'a'$ -> x",
+    "let f x = match x with (a, b) -> $a + b$ ^ \"c\"",
     "let f x y = match x with (a, 1) when a = y -> y + 1 | $('a', _)$ -> 2 | _ -> 3",
-    "let f = fun (1, x) -> $x$ + 1 ^ \"a\"",
+    "let f = fun (1, x) -> $x + 1$ ^ \"a\"",
 ];
 
 /// Written types.
@@ -145,11 +145,11 @@ pub const WRITTEN: [&str; 20] = [
     "type 'a c = int let x = ($'a'$ : char c)",
     "type ('a, 'b) f = 'b -> 'a let g (x : (int, char) f) = x $1$",
     "let rec f $x : int = f x + 1; \"a\"$",
-    "let f x : int = (x + 1; $\"a\"$)",
+    "let f x : int = $(x + 1; \"a\")$",
 ];
 
 /// Binds, local names, borrows, and names of the item itself.
-pub const BINDS: [&str; 19] = [
+pub const BINDS: [&str; 18] = [
     "let () = $1$",
     "let (a, b) = $1$",
     "let [a] = $(1, 2)$",
@@ -164,9 +164,8 @@ pub const BINDS: [&str; 19] = [
     "let f x = let borrow_ y = x in (y + 1, $y$ ^ \"a\")",
     "let rec f x = f 1 + f $'a'$",
     "let rec f x = x and g y = (f 1, f $'a'$)",
-    "let rec f x = $g x + 1$ and g y = f y ^ \"a\"",
+    "let rec f x = g x + 1 and g y = $f y$ ^ \"a\"",
     "let rec f $x = if x then f 1 else 2$",
-    "let rec f $x y = f x$ and g = fun z -> z",
     "let f x = 1 let () = $f$",
     "let x = 1 let y = $x$ ^ \"a\" let z = 1 + 'a'",
 ];

@@ -34,7 +34,7 @@ pub const BAD: [&str; 31] = [
     "let f x = (let y = $x = x$ in y) && [] = []",
     "let rec f x = $x = x$ && g x and g y = f y",
     "let f x y = (x = y, $[x] = [y]$, x + 1)",
-    "let f x y z = (x = y, $y = z$)",
+    "let f x y z = ($x = y$, y = z)",
 ];
 
 /// Rule 40 where there is also a comparison at another type.

@@ -16,11 +16,11 @@ pub const ALONE: [&str; 22] = [
     "let f x = if true then x else $(x, x)$",
     "let f x = match x with (a, b) -> a = $x$",
     "let f x = match x with a :: b -> a = $b$ | _ -> true",
-    "let f x = match x with Some y -> $y$ | None -> x",
+    "let f x = match x with Some y -> y | None -> $x$",
     "let f x = match 1 with 0 -> x | 1 -> $[x]$ | _ -> x",
-    "let f = function $Some x$ -> x | x -> x",
+    "let f = function Some x -> x | x -> $x$",
     "let f x y = if x = y then x else $[y]$",
-    "let f x y = match (x, y) with ((a, b), $(c, d)$) -> [a; y]",
+    "let f x y = match (x, y) with ((a, _), (b, _)) -> ([a; y], [b; $x$])",
     "type 'a r = {p : 'a; q : 'a} let f x = {p = x; q = $[x]$}",
     "let f (x : 'a) = ($[x]$ : 'a)",
     "let f (x : 'a) : 'a = $fun y -> x$",
@@ -37,7 +37,7 @@ pub const MIXED: [&str; 11] = [
     "let f x = match 1 with 0 -> x | 1 -> $[x]$ | _ -> \"a\"",
     "let f x = match 1 with 0 -> x | 1 -> $[x]$ | n when 2 -> x | _ -> x",
     "type 'a r = {p : 'a; q : 'a; s : int} let f x = {p = x; q = $[x]$; s = \"a\"}",
-    "let f x y = [(x, x); $([y], (y, y))$]",
+    "let f x y = [(x, y); $([y], [x])$; (1, y)]",
     "let f x y = [(x, y); $([y], Some x)$; (y, x)]",
 ];
 
