@@ -12,7 +12,7 @@ use std::test::Fail;
 
 /// What inference answers for a source.
 #[derive(Drop)]
-pub struct Inferred {
+pub struct Inference {
     /// The text of the file and the prelude behind it.
     pub text: Vec<u8>,
     pub scoped: Scoped,
@@ -28,7 +28,7 @@ fn text_of(alloc: Global, file: &str) -> Result<Vec<u8>, AllocError> {
 }
 
 /// The types of a file whose names and declarations are good.
-pub fn inferred(alloc: Global, file: &str) -> Result<Inferred, Fail> {
+pub fn inferred(alloc: Global, file: &str) -> Result<Inference, Fail> {
     let Answer::Found(scoped) = resolved(alloc, file.as_bytes())? else {
         return Err("refused before its declarations")?;
     };
@@ -37,7 +37,7 @@ pub fn inferred(alloc: Global, file: &str) -> Result<Inferred, Fail> {
         return Err("refused for its declarations")?;
     };
     let answer = infer(alloc, &scoped, &decls, table);
-    Ok(Inferred {
+    Ok(Inference {
         text,
         scoped,
         decls,

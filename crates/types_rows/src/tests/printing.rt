@@ -1,6 +1,6 @@
 //! Types as they are written.
 
-use super::inferring::Inferred;
+use super::inferring::Inference;
 use ml_types::{Scheme, TyId, TyNode};
 use ml_typing::Typed;
 use std::alloc::{AllocError, Global};
@@ -36,7 +36,7 @@ const LETTERS: &str = "abcdefghijklmnopqrstuvwxyz";
 /// generalise is `_`.
 pub fn scheme(
     alloc: Global,
-    of: &Inferred,
+    of: &Inference,
     typed: &Typed,
     scheme: &Scheme,
 ) -> Result<String, AllocError> {
@@ -68,7 +68,7 @@ pub fn scheme(
 }
 
 /// The name of a declaration.
-fn name(of: &Inferred, number: u32, out: &mut String) -> Result<(), AllocError> {
+fn name(of: &Inference, number: u32, out: &mut String) -> Result<(), AllocError> {
     if let Some(word) = PREDEFINED.get(number as usize) {
         return out.push_str(word);
     }

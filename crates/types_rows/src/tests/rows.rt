@@ -1,6 +1,6 @@
 //! The answer of inference for each source of the tables.
 
-use super::inferring::{Inferred, inferred};
+use super::inferring::{Inference, inferred};
 use super::marking::{marked, unmarked};
 use super::printing::scheme;
 use super::tables::Row;
@@ -24,7 +24,7 @@ use std::test::Fail;
 const PRELUDE_COUNT: usize = 7;
 
 /// The types of a file's names in the order of their places, `; ` between them.
-fn types(alloc: Global, of: &Inferred, typed: &Typed) -> Result<String, Fail> {
+fn types(alloc: Global, of: &Inference, typed: &Typed) -> Result<String, Fail> {
     let mut out = String::new(alloc);
     let mut first = true;
     for one in typed.schemes.as_slice().iter().skip(PRELUDE_COUNT) {
@@ -59,12 +59,16 @@ pub fn words_of(alloc: Global, file: &str) -> Result<String, Fail> {
     Ok(out)
 }
 
-/// Whether each source of a table has the types that stand beside it.
+/// Whether each source of a table has the types that stand beside it; those that have not are shown.
 fn check(rt: &impl Abort, alloc: Global, table: &[Row]) -> Result<(), Fail> {
+    let mut wrong = String::new(alloc);
     for (file, expected) in table {
         let found = words_of(alloc, file)?;
-        assert_eq!(rt; found.as_str(), *expected, "at {file:?}");
+        if found.as_str() != *expected {
+            write!(wrong, "{file}: {found}\n")?;
+        }
     }
+    assert_eq!(rt; wrong.as_str(), "");
     Ok(())
 }
 
@@ -75,12 +79,16 @@ fn check_refused(
     rule: u32,
     table: &[&'static str],
 ) -> Result<(), Fail> {
+    let mut wrong = String::new(alloc);
     for expected in table {
         let file = unmarked(alloc, expected)?;
         let found = words_of(alloc, file.as_str())?;
         let wanted = format!(in alloc; "{rule} {expected}")?;
-        assert_eq!(rt; found.as_str(), wanted.as_str());
+        if found.as_str() != wanted.as_str() {
+            write!(wrong, "{expected}: {found}\n")?;
+        }
     }
+    assert_eq!(rt; wrong.as_str(), "");
     Ok(())
 }
 

@@ -44,7 +44,7 @@ pub const ANNOTATIONS: [Row; 28] = [
 ];
 
 /// Abbreviations, which no type has.
-pub const ABBREVIATIONS: [Row; 20] = [
+pub const ABBREVIATIONS: [Row; 25] = [
     ("type t = int let f (x : t) = x", "int -> int"),
     ("type t = int let x : t = 1 let y = x + 1", "int; int"),
     ("type t = int list option let f (x : t) = x", "int list option -> int list option"),
@@ -71,5 +71,10 @@ pub const ABBREVIATIONS: [Row; 20] = [
     ("type 'a p = 'a * 'a type 'a r = {v : 'a p} let f x = x.v", "'a r -> 'a * 'a"),
     ("type t = int * char type u = A of t let f x y = A (x, y)", "int -> char -> u"),
     ("type t = A type u = t let x : u = A", "t"),
+    ("type t = int type u = A of t let f (A n) = n + 1", "u -> int"),
+    ("type t = int type r = {v : t} let f x = x.v + 1", "r -> int"),
+    ("type t = int type u = t let f (x : u) = x + 1", "int -> int"),
+    ("type t = int -> int type 'a u = A of (t -> 'a) let f (A g) = g (fun x -> x)", "'a u -> 'a"),
+    ("type 'a c = int type 'a u = A of 'a c let f x = A (x + 1)", "int -> 'a u"),
     ("type 'a o = 'a option let f (x : int o) = match x with Some n -> n | None -> 0", "int option -> int"),
 ];
