@@ -1,1 +1,41 @@
-//! Later.
+//! The limit of a type's size.
+
+use super::inferring::inferred;
+use super::repeating::repeated;
+use super::rows::{check_refused, refusal};
+use super::tables::sizes::{BEFORE_RULES, CLASHES, COMPARISONS, CYCLES, TOO_LARGE, WITHIN};
+use std::alloc::Global;
+use std::process::Abort;
+use std::test::Fail;
+
+/// What stands before the place of a limit.
+const LIMIT: &str = "TypeSize(2001)";
+
+/// Whether each source of a table, in its short form, has types.
+fn check_typed(rt: &impl Abort, alloc: Global, table: &[&'static str]) -> Result<(), Fail> {
+    for short in table {
+        let file = repeated(alloc, short)?;
+        let of = inferred(alloc, file.as_str())?;
+        let found = refusal(alloc, file.as_str(), &of)?;
+        assert_eq!(rt; found.as_str(), "", "at {short:?}");
+    }
+    Ok(())
+}
+
+#[test]
+fn largest(rt: HostRuntime) -> Result<(), Fail> {
+    check_typed(&rt, rt.alloc(), &WITHIN)
+}
+
+#[test]
+fn too_large(rt: HostRuntime) -> Result<(), Fail> {
+    check_refused(&rt, rt.alloc(), LIMIT, &TOO_LARGE)
+}
+
+#[test]
+fn limits_and_rules(rt: HostRuntime) -> Result<(), Fail> {
+    check_refused(&rt, rt.alloc(), LIMIT, &BEFORE_RULES)?;
+    check_refused(&rt, rt.alloc(), "40", &CLASHES)?;
+    check_refused(&rt, rt.alloc(), "41", &CYCLES)?;
+    check_refused(&rt, rt.alloc(), "42", &COMPARISONS)
+}

@@ -5,6 +5,7 @@ mod inferring;
 mod limits;
 mod marking;
 mod printing;
+mod repeating;
 mod rows;
 mod scale;
 mod tables;

@@ -3,6 +3,7 @@
 use super::inferring::{Inference, inferred};
 use super::marking::{marked, unmarked};
 use super::printing::scheme;
+use super::repeating::repeated;
 use super::tables::Row;
 use super::tables::annotations::{ABBREVIATIONS, ANNOTATIONS};
 use super::tables::clashes::{BINDS, CHOICES, OPERATORS, PARTS, PATTERNS as WRONG_PATTERNS, WRITTEN};
@@ -38,13 +39,21 @@ fn types(alloc: Global, of: &Inference, typed: &Typed) -> Result<String, Fail> {
     Ok(out)
 }
 
-/// The answer for a file: the types of its names, or a rule or the limit with the file, in which marks
-/// stand around the part that is refused.
+/// The answer for a file: the types of its names, or what refuses it.
 pub fn words_of(alloc: Global, file: &str) -> Result<String, Fail> {
     let of = inferred(alloc, file)?;
+    match &of.answer {
+        Ok(typed) => types(alloc, &of, typed),
+        Err(_) => refusal(alloc, file, &of),
+    }
+}
+
+/// What refuses a file: a rule or the limit with the file, in which marks stand around the part that is
+/// refused. It is empty where nothing does.
+pub fn refusal(alloc: Global, file: &str, of: &Inference) -> Result<String, Fail> {
     let mut out = String::new(alloc);
     match &of.answer {
-        Ok(typed) => return types(alloc, &of, typed),
+        Ok(_) => {}
         Err(InferErr::Refused(refusal)) => {
             let rule = refusal.rule.number();
             let place = marked(alloc, file, refusal.span)?;
@@ -72,18 +81,19 @@ fn check(rt: &impl Abort, alloc: Global, table: &[Row]) -> Result<(), Fail> {
     Ok(())
 }
 
-/// Whether each marked source of a table is refused at its marks by this rule.
-fn check_refused(
+/// Whether each marked source of a table, in its short form, is refused at its marks for this reason.
+pub fn check_refused(
     rt: &impl Abort,
     alloc: Global,
-    rule: u32,
+    reason: &str,
     table: &[&'static str],
 ) -> Result<(), Fail> {
     let mut wrong = String::new(alloc);
     for expected in table {
-        let file = unmarked(alloc, expected)?;
+        let long = repeated(alloc, expected)?;
+        let file = unmarked(alloc, long.as_str())?;
         let found = words_of(alloc, file.as_str())?;
-        let wanted = format!(in alloc; "{rule} {expected}")?;
+        let wanted = format!(in alloc; "{reason} {long}")?;
         if found.as_str() != wanted.as_str() {
             write!(wrong, "{expected}: {found}\n")?;
         }
@@ -126,24 +136,24 @@ fn names(rt: HostRuntime) -> Result<(), Fail> {
 
 #[test]
 fn different_types(rt: HostRuntime) -> Result<(), Fail> {
-    check_refused(&rt, rt.alloc(), 40, &PARTS)?;
-    check_refused(&rt, rt.alloc(), 40, &OPERATORS)?;
-    check_refused(&rt, rt.alloc(), 40, &CHOICES)?;
-    check_refused(&rt, rt.alloc(), 40, &WRONG_PATTERNS)?;
-    check_refused(&rt, rt.alloc(), 40, &WRITTEN)?;
-    check_refused(&rt, rt.alloc(), 40, &BINDS)
+    check_refused(&rt, rt.alloc(), "40", &PARTS)?;
+    check_refused(&rt, rt.alloc(), "40", &OPERATORS)?;
+    check_refused(&rt, rt.alloc(), "40", &CHOICES)?;
+    check_refused(&rt, rt.alloc(), "40", &WRONG_PATTERNS)?;
+    check_refused(&rt, rt.alloc(), "40", &WRITTEN)?;
+    check_refused(&rt, rt.alloc(), "40", &BINDS)
 }
 
 #[test]
 fn infinite_types(rt: HostRuntime) -> Result<(), Fail> {
-    check_refused(&rt, rt.alloc(), 41, &ALONE)?;
-    check_refused(&rt, rt.alloc(), 40, &MIXED)?;
-    check_refused(&rt, rt.alloc(), 41, &ORDER)
+    check_refused(&rt, rt.alloc(), "41", &ALONE)?;
+    check_refused(&rt, rt.alloc(), "40", &MIXED)?;
+    check_refused(&rt, rt.alloc(), "41", &ORDER)
 }
 
 #[test]
 fn comparisons(rt: HostRuntime) -> Result<(), Fail> {
-    check_refused(&rt, rt.alloc(), 42, &BAD)?;
-    check_refused(&rt, rt.alloc(), 40, &WITH_OTHERS)?;
+    check_refused(&rt, rt.alloc(), "42", &BAD)?;
+    check_refused(&rt, rt.alloc(), "40", &WITH_OTHERS)?;
     check(&rt, rt.alloc(), &LATER)
 }

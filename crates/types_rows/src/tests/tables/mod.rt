@@ -9,6 +9,7 @@ pub mod expressions;
 pub mod items;
 pub mod patterns;
 pub mod predefined;
+pub mod sizes;
 
 /// A source, and the types of the names that it binds, in the order of their places.
 pub type Row = (&'static str, &'static str);
