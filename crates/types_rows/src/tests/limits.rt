@@ -3,7 +3,10 @@
 use super::inferring::inferred;
 use super::repeating::repeated;
 use super::rows::{check_refused, refusal};
-use super::tables::sizes::{BEFORE_RULES, CLASHES, COMPARISONS, CYCLES, TOO_LARGE, WITHIN};
+use super::tables::sizes::{
+    BEFORE_RULES, BORROWED, CLASHES, COMPARISONS, CYCLES, DECLARED, DECLARED_WITHIN, DOUBLED,
+    FUNCTIONS, GROWN_WITHIN, LITERAL_WITHIN, LITERALS, OLDER, PATTERNS, WRITTEN,
+};
 use std::alloc::Global;
 use std::process::Abort;
 use std::test::Fail;
@@ -23,13 +26,42 @@ fn check_typed(rt: &impl Abort, alloc: Global, table: &[&'static str]) -> Result
 }
 
 #[test]
-fn largest(rt: HostRuntime) -> Result<(), Fail> {
-    check_typed(&rt, rt.alloc(), &WITHIN)
+fn largest_literals(rt: HostRuntime) -> Result<(), Fail> {
+    check_typed(&rt, rt.alloc(), &LITERAL_WITHIN)
 }
 
 #[test]
-fn too_large(rt: HostRuntime) -> Result<(), Fail> {
-    check_refused(&rt, rt.alloc(), LIMIT, &TOO_LARGE)
+fn largest_grown(rt: HostRuntime) -> Result<(), Fail> {
+    check_typed(&rt, rt.alloc(), &GROWN_WITHIN)?;
+    check_typed(&rt, rt.alloc(), &DECLARED_WITHIN)
+}
+
+#[test]
+fn too_large_literals(rt: HostRuntime) -> Result<(), Fail> {
+    check_refused(&rt, rt.alloc(), LIMIT, &LITERALS)
+}
+
+#[test]
+fn too_large_parts(rt: HostRuntime) -> Result<(), Fail> {
+    check_refused(&rt, rt.alloc(), LIMIT, &WRITTEN)?;
+    check_refused(&rt, rt.alloc(), LIMIT, &DECLARED)?;
+    check_refused(&rt, rt.alloc(), LIMIT, &PATTERNS)
+}
+
+#[test]
+fn too_large_doubled(rt: HostRuntime) -> Result<(), Fail> {
+    check_refused(&rt, rt.alloc(), LIMIT, &DOUBLED)
+}
+
+#[test]
+fn too_large_later(rt: HostRuntime) -> Result<(), Fail> {
+    check_refused(&rt, rt.alloc(), LIMIT, &OLDER)?;
+    check_refused(&rt, rt.alloc(), LIMIT, &BORROWED)
+}
+
+#[test]
+fn too_large_functions(rt: HostRuntime) -> Result<(), Fail> {
+    check_refused(&rt, rt.alloc(), LIMIT, &FUNCTIONS)
 }
 
 #[test]

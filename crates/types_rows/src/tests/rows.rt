@@ -6,7 +6,9 @@ use super::printing::scheme;
 use super::repeating::repeated;
 use super::tables::Row;
 use super::tables::annotations::{ABBREVIATIONS, ANNOTATIONS};
-use super::tables::clashes::{BINDS, CHOICES, OPERATORS, PARTS, PATTERNS as WRONG_PATTERNS, WRITTEN};
+use super::tables::clashes::{
+    BINDS, CHOICES, OPERATORS, PARTS, PATTERNS as WRONG_PATTERNS, WRITTEN,
+};
 use super::tables::comparisons::{BAD, LATER, WITH_OTHERS};
 use super::tables::cycles::{ALONE, MIXED, ORDER};
 use super::tables::declared::{CONSTRUCTORS, LISTS, RECORDS};

@@ -48,14 +48,38 @@ pub const WITH_OTHERS: [&str; 5] = [
 
 /// Comparisons that are good by the types of the whole item.
 pub const LATER: [Row; 10] = [
-    ("let a = 1 = 2 and b = 'a' < 'b' and c = \"a\" > \"b\"", "bool; bool; bool"),
-    ("let a = true <= false and b = () >= () and c = 1 <> 2", "bool; bool; bool"),
+    (
+        "let a = 1 = 2 and b = 'a' < 'b' and c = \"a\" > \"b\"",
+        "bool; bool; bool",
+    ),
+    (
+        "let a = true <= false and b = () >= () and c = 1 <> 2",
+        "bool; bool; bool",
+    ),
     ("let f x y = let b = x = y in x + 1", "int -> int -> int"),
-    ("let f x y = (x = y, x ^ \"a\")", "string -> string -> bool * string"),
-    ("let f x y z = (x = y, y = z, z = 'a')", "char -> char -> char -> bool * bool * bool"),
-    ("let rec f x = x = x && g x and g y = if y then f y else y", "bool -> bool; bool -> bool"),
-    ("let f (x : 'a) (y : 'a) = x = y && (x : 'a) = 1", "int -> int -> bool"),
-    ("type t = int let f (x : t) (y : t) = x = y", "int -> int -> bool"),
-    ("type 'a c = int let f (x : ('a -> 'b) c) y = x = y", "int -> int -> bool"),
+    (
+        "let f x y = (x = y, x ^ \"a\")",
+        "string -> string -> bool * string",
+    ),
+    (
+        "let f x y z = (x = y, y = z, z = 'a')",
+        "char -> char -> char -> bool * bool * bool",
+    ),
+    (
+        "let rec f x = x = x && g x and g y = if y then f y else y",
+        "bool -> bool; bool -> bool",
+    ),
+    (
+        "let f (x : 'a) (y : 'a) = x = y && (x : 'a) = 1",
+        "int -> int -> bool",
+    ),
+    (
+        "type t = int let f (x : t) (y : t) = x = y",
+        "int -> int -> bool",
+    ),
+    (
+        "type 'a c = int let f (x : ('a -> 'b) c) y = x = y",
+        "int -> int -> bool",
+    ),
     ("let f g = g 1 = (fun () -> ()) ()", "(int -> unit) -> bool"),
 ];

@@ -142,14 +142,8 @@ pub const RECORDS: [Row; 15] = [
         "type 'a r = {v : 'a; w : 'a} let f x = [x.v; x.w]",
         "'a r -> 'a list",
     ),
-    (
-        "type 'a r = {v : 'a} let f x = x.v.v",
-        "'a r r -> 'a",
-    ),
-    (
-        "type r = {f : int -> int} let g x = x.f 1",
-        "r -> int",
-    ),
+    ("type 'a r = {v : 'a} let f x = x.v.v", "'a r r -> 'a"),
+    ("type r = {f : int -> int} let g x = x.f 1", "r -> int"),
     (
         "type r = {global_ a : int; many_ b : char} let f x = (x.b, x.a)",
         "r -> char * int",

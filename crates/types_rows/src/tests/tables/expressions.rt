@@ -52,10 +52,7 @@ pub const NAMES: [Row; 10] = [
         "let id x = x let p = (id 1, id 'a')",
         "'a -> 'a; int * char",
     ),
-    (
-        "let id x = x let f = id id",
-        "'a -> 'a; 'a -> 'a",
-    ),
+    ("let id x = x let f = id id", "'a -> 'a; 'a -> 'a"),
     (
         "let l = [] let a = 1 :: l let b = 'a' :: l",
         "'a list; int list; char list",
@@ -102,9 +99,15 @@ pub const APPLICATIONS: [Row; 25] = [
     ("let x = (fun y -> [y]) 'a'", "char list"),
     ("let f g = (g 1, g 2)", "(int -> 'a) -> 'a * 'a"),
     ("let f g = g (fun x -> x)", "(('a -> 'a) -> 'b) -> 'b"),
-    ("let f g = 1 + g 'a' \"s\"", "(char -> string -> int) -> int"),
+    (
+        "let f g = 1 + g 'a' \"s\"",
+        "(char -> string -> int) -> int",
+    ),
     ("let l = [(fun x -> x)]", "('a -> 'a) list"),
-    ("let l = [(fun x -> x); (fun y -> y + 1)]", "(int -> int) list"),
+    (
+        "let l = [(fun x -> x); (fun y -> y + 1)]",
+        "(int -> int) list",
+    ),
     ("let p = ((fun x -> x), 1)", "('a -> 'a) * int"),
     ("let f (x, y) = (y, x)", "'a * 'b -> 'b * 'a"),
 ];
@@ -117,7 +120,10 @@ pub const CONTROL: [Row; 27] = [
     ("let f b = if b then print_int 1", "bool -> unit"),
     ("let f b x = if b then x", "bool -> unit -> unit"),
     ("let f b = if b then exit 1 else 'a'", "bool -> char"),
-    ("let f b = if b then exit 1 else failwith \"a\"", "bool -> 'a"),
+    (
+        "let f b = if b then exit 1 else failwith \"a\"",
+        "bool -> 'a",
+    ),
     ("let x = 1; 'a'", "char"),
     ("let f x = x; x + 1; \"a\"", "int -> string"),
     ("let f x = (); x", "'a -> 'a"),
@@ -136,7 +142,10 @@ pub const CONTROL: [Row; 27] = [
         "let f x = let borrow_ y = x in let borrow_ z = y in z ^ \"a\"",
         "string -> string",
     ),
-    ("let l = [1] let f () = let borrow_ y = l in y", "int list; unit -> int list"),
+    (
+        "let l = [1] let f () = let borrow_ y = l in y",
+        "int list; unit -> int list",
+    ),
     ("let f (local_ x) = local_ x", "'a -> 'a"),
     ("let f (unique_ once_ x) = (once_ x, 1)", "'a -> 'a * int"),
     ("let f x = exclave_ Some x", "'a -> 'a option"),
