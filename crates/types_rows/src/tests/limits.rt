@@ -1,29 +1,14 @@
 //! The limit of a type's size.
 
-use super::inferring::inferred;
-use super::repeating::repeated;
-use super::rows::{check_refused, refusal};
+use super::rows::{check_refused, check_typed};
 use super::tables::sizes::{
     BEFORE_RULES, BORROWED, CLASHES, COMPARISONS, CYCLES, DECLARED, DECLARED_WITHIN, DOUBLED,
     FUNCTIONS, GROWN_WITHIN, LITERAL_WITHIN, LITERALS, OLDER, PATTERNS, WRITTEN,
 };
-use std::alloc::Global;
-use std::process::Abort;
 use std::test::Fail;
 
 /// What stands before the place of a limit.
 const LIMIT: &str = "TypeSize(2001)";
-
-/// Whether each source of a table, in its short form, has types.
-fn check_typed(rt: &impl Abort, alloc: Global, table: &[&'static str]) -> Result<(), Fail> {
-    for short in table {
-        let file = repeated(alloc, short)?;
-        let of = inferred(alloc, file.as_str())?;
-        let found = refusal(alloc, file.as_str(), &of)?;
-        assert_eq!(rt; found.as_str(), "", "at {short:?}");
-    }
-    Ok(())
-}
 
 #[test]
 fn largest_literals(rt: HostRuntime) -> Result<(), Fail> {

@@ -83,6 +83,17 @@ fn check(rt: &impl Abort, alloc: Global, table: &[Row]) -> Result<(), Fail> {
     Ok(())
 }
 
+/// Whether each source of a table, in its short form, has types.
+pub fn check_typed(rt: &impl Abort, alloc: Global, table: &[&'static str]) -> Result<(), Fail> {
+    for short in table {
+        let file = repeated(alloc, short)?;
+        let of = inferred(alloc, file.as_str())?;
+        let found = refusal(alloc, file.as_str(), &of)?;
+        assert_eq!(rt; found.as_str(), "", "at {short:?}");
+    }
+    Ok(())
+}
+
 /// Whether each marked source of a table, in its short form, is refused at its marks for this reason.
 pub fn check_refused(
     rt: &impl Abort,
