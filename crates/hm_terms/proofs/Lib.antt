@@ -5,6 +5,7 @@ pub mod Holding
 pub mod Putting
 pub mod Copying
 pub mod Rebuilding
+pub mod Slots
 pub mod Building
 pub mod Contexts
 pub mod Layers
