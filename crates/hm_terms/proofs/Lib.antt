@@ -6,9 +6,11 @@ pub mod Putting
 pub mod Copying
 pub mod Rebuilding
 pub mod Slots
+pub mod Spelling
 pub mod Building
 pub mod Contexts
 pub mod Layers
 pub mod Walking
 pub mod Terms
+pub mod SpellSteps
 pub mod Tables

@@ -3,3 +3,4 @@ pub mod Shapes
 pub mod Contexts
 pub mod Copies
 pub mod Slots
+pub mod Spelling

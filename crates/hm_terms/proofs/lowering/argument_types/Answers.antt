@@ -13,9 +13,9 @@ loop-number-init c = λ decls d k. subst (λ (xs : List TyId). LowersAll (store 
 
 pub loop-number-preserved : goal.loop-number-preserved
 loop-number-preserved c = λ decls d k.
-    argument_next (store c.args.solver.now) (store c.loop-number.solver) (store c.declared_instance.new.solver) decls d c.args.args.now c.loop-number.number c.args.node c.in-Some.ty c.in_ok-id.id c.loop-number.ids _ k c.in-Some.ensures (c.in_ok-id.ensures decls d) (c.loop-number.invariant decls d k) c.in_ok-push.ensures.ok
+    argument_next (store c.args.solver.now) (store c.loop-number.solver) (store c.declared_instance.new.solver) decls d c.args.args.now c.loop-number.number c.args.node c.in-Some.ty c.in_ok-id.id c.loop-number.ids _ k c.in-Some.ensures (c.in_ok-id.ensures.lowers decls d) (c.loop-number.invariant decls d k) c.in_ok-push.ensures.ok
 
-pub returns : goal.returns
-returns c = λ decls d k.
+pub returns-clause-lowers : goal.returns-clause-lowers
+returns-clause-lowers c = λ decls d k.
     subst (λ (as_ : List ArgInfo). LowersAll (store c.args.solver.now) (store c.loop-number.solver) (map (λ (a : ArgInfo). at_fresh c.args.node (d.declared a.ty)) as_) c.loop-number.ids)
     (take_all c.args.args.now c.loop-number.number c.loop-number-test.false) (c.loop-number.invariant decls d k)

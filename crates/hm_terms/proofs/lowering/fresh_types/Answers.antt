@@ -15,5 +15,5 @@ pub loop-number-preserved : goal.loop-number-preserved
 loop-number-preserved c = λ r.
     let l = c.loop-number.invariant r in
     lowers_more (store c.args.solver.now) (store c.loop-number.solver) (store c.unknown.new.self) (fresh_from c.args.node c.loop-number.number 0) _ c.loop-number.ids _ (Is (Fresh c.args.node c.loop-number.number)) c.in_ok-id.id r l
-    (knows_lowers (store c.loop-number.solver) (store c.unknown.new.self) (Fresh c.args.node c.loop-number.number) c.in_ok-id.id (l.grows.ready r) c.in_ok-id.ensures)
+    (knows_lowers (store c.loop-number.solver) (store c.unknown.new.self) (Fresh c.args.node c.loop-number.number) c.in_ok-id.id (l.grows.ready r) c.in_ok-id.ensures.knows)
     (fresh_next c.args.node c.loop-number.number) c.in_ok-push.ensures.ok

@@ -11,5 +11,5 @@ loop-done-preserved c = λ hs r k all one.
     function_next (store c.args.solver.now) (store c.loop-done.solver) (store c.arrow.new.self) hs r c.args.params.now c.loop-done.done c.loop-done.solver.slots c.in-Some.from c.loop-done.to c.in_ok-to.to k all
     (c.loop-done.invariant hs r k all one) c.in-Some.ensures.0 c.in-Some.ensures.1 c.in_ok-to.ensures.adds
 
-pub returns : goal.returns
-returns c = λ hs r k all one. function_last (store c.args.solver.now) (store c.loop-done.solver) hs r c.args.params.now c.loop-done.done c.loop-done.to c.loop-done-test.false (c.loop-done.invariant hs r k all one)
+pub returns-clause-lowers : goal.returns-clause-lowers
+returns-clause-lowers c = λ hs r k all one. function_last (store c.args.solver.now) (store c.loop-done.solver) hs r c.args.params.now c.loop-done.done c.loop-done.to c.loop-done-test.false (c.loop-done.invariant hs r k all one)
