@@ -1,5 +1,6 @@
 -- What one step more of a loop, or one call more, makes of a term.
 use Rattle.std.proofs.Common.{◌≡◌, ℕ, zero, suc, ◌+◌, ◌-◌, ◌<◌, ◌≤◌, ◌⊎◌, List, [], ◌∷◌, ◌++◌, length, take, drop, Option, Some, None, get_or, refl, sym, ap, ◌∙◌, subst, inl, inr, arith, add-one, length-append}
+use Rattle.std.specs.Prelude.{Result, Ok, Err, OnOk, IfOk}
 use Rattle.std.specs.List.{slice_get}
 use Rattle.std.proofs.lemmas.List.{drop_all}
 use Rattle.std.proofs.lemmas.Option.{slice_get_read}
@@ -172,3 +173,27 @@ function_spells old mid last new decls k l m n t result inner params slice xs ys
     let to_result = subst (λ (u : Term). Spells new decls l u m to) within (spells_grow last new end_ready arrows.0 decls l inner m to one.1) in
     let from_params = subst (λ (zs : List TyId). Arrows new m zs to n x) list arrows.1 in
     (grows_then old mid new all.0 later, is_function k l m n t x params result xs to e terms to_result from_params)
+
+-- a product of other than one type
+pub product_makes : (old new : Store) (xs : List TyId) (x : TyId) → (length xs ≡ 1 → ⊥) → AddsNode old new (Tuple xs) x → Grows old new × IsProduct new xs x
+product_makes old new xs x several a =
+    let one = node_there old new (Tuple xs) (TupleHead (length xs)) x a refl in
+    (one.0, inr (several, one.1))
+
+pub plain_makes : (old new : Store) (d : ℕ) (o : Option TyId) (xs : List TyId) (x : TyId) → o ≡ None → AddsNode old new (Con d xs) x → Grows old new × IsNamed new d o xs x
+plain_makes old new d o xs x e a =
+    subst (λ (z : Option TyId). Grows old new × IsNamed new d z xs x) (sym e) (node_there old new (Con d xs) (ConHead d (length xs)) x a refl)
+
+pub expanded_makes : (old new : Store) (d : ℕ) (o : Option TyId) (body y : TyId) (xs slice : List TyId) (x : TyId) → o ≡ Some body → old.declared body.0 ≡ Some y → slice ≡ xs → MakesCopy old new (at_arguments slice) y x → Grows old new × IsNamed new d o xs x
+expanded_makes old new d o body y xs slice x e is same m =
+    let copy = subst (λ (zs : List TyId). IsCopy new (at_arguments zs) y x) same m.copy in
+    subst (λ (z : Option TyId). Grows old new × IsNamed new d z xs x) (sym e) (m.grows, (y, m.grows.names.declared body.0 ∙ is, copy))
+
+-- no fresh type yet
+pub fresh_first : (s : Store) (node : ℕ) (xs : List TyId) → xs ≡ [] → Grows s s × AreFresh s node 0 xs
+fresh_first s node xs e = (grows_same s, subst (λ (zs : List TyId). AreFresh s node 0 zs) (sym e) (record { count_is = refl; fresh = λ i x p. absurd (let q : None ≡ Some x = p in cc) }))
+
+-- what follows from two facts about a value
+pub ok_then : {A E : Type 0} (r : Result A E) (S : Type 0) (P Q : A → Type 0) → ((x : A) → S → P x → Q x) → OnOk r S → IfOk r P → IfOk r Q
+ok_then (Ok x) S P Q f s p = f x s p
+ok_then (Err e) S P Q f s p = p
