@@ -1,19 +1,18 @@
 -- What terms are read by, while the solver grows.
-use Rattle.std.proofs.Common.{◌≡◌, ℕ, suc, ◌<◌, List, [], ◌∷◌, length, Option, Some, None, refl, sym, ap, ◌∙◌, subst, arith}
+use Rattle.std.proofs.Common.{◌≡◌, ℕ, ◌<◌, List, length, Option, Some, None, refl, sym, ap, ◌∙◌, subst, arith}
 use Rattle.std.specs.List.{slice_get}
 use Rattle.ml_types.specs.declared.node.TyId.{TyId}
 use Rattle.ml_types.specs.Types.{Tree}
 use Rattle.ml_types.specs.declared.declared.DeclInfo.{DeclInfo}
 use Rattle.ml_types.specs.declared.declared.ConInfo.{ConInfo}
-use Rattle.ml_types.specs.declared.declared.ArgInfo.{ArgInfo}
-use Rattle.ml_types.specs.declared.declared.FieldInfo.{FieldInfo}
 use Rattle.ml_typing.specs.declared.equation.Unknown.TheVariants.{Binder}
-use Rattle.ml_typing.specs.Terms.{Context, Shape, Make, shapes, with_shapes, shape_at, at_fresh, top, named, argument, cons_of, fields_of}
+use Rattle.ml_typing.specs.Terms.{Context, Shape, Make, shapes, with_shapes, shape_at, at_fresh, top, named, argument}
+use Rattle.ml_typing.specs.Typing.{alias_of}
 use Rattle.ml_types.specs.Types.{ConHead}
 use Rattle.hm_unify.specs.Solutions.{Stands}
 use Rattle.hm_terms.specs.Stores.{Store, Knows, IsReady, Grows}
 use Rattle.hm_terms.specs.Shapes.{Lowers}
-use Rattle.hm_terms.specs.Contexts.{Shows, ShowsAny, AllShow, IsRead, alias_of, op_place}
+use Rattle.hm_terms.specs.Contexts.{Shows, ShowsAny, IsRead, op_place}
 use Rattle.hm_terms.proofs.Growth.{longer, stands_grow, node_same, link_same}
 use Rattle.hm_terms.proofs.Holding.{knows_lowers}
 
@@ -27,17 +26,11 @@ shows_any_grow : (old new : Store) → IsReady old → Grows old new → (o : Op
 shows_any_grow old new r g None w k = k
 shows_any_grow old new r g (Some x) w k = (k.0, k.1, shows_grow old new r g x k.0 k.2)
 
-pub all_show_grow : (old new : Store) → IsReady old → Grows old new → (declared : TyId → Tree) (args : List ArgInfo) → AllShow old declared args → AllShow new declared args
-all_show_grow old new r g declared [] k = tt
-all_show_grow old new r g declared (a ∷ args) k = (shows_grow old new r g a.ty (declared a.ty) k.0, all_show_grow old new r g declared args k.1)
-
 pub read_grows : (old new : Store) (decls : List DeclInfo) (c : Context) → IsRead old decls c → Grows old new → IsRead new decls c
 read_grows old new decls c k g = record {
   ready = g.ready r;
   decls_are = k.decls_are;
-  abbreviations = λ i d x p q. shows_grow old new r g x (c.declared x) (k.abbreviations i d x p q);
-  arguments = λ i j l d q a e f h. shows_grow old new r g a.ty (c.declared a.ty) (k.arguments i j l d q a e f h);
-  fields = λ i j d f p q. shows_grow old new r g f.arg.ty (c.declared f.arg.ty) (k.fields i j d f p q);
+  declared = λ x y p. shows_grow old new r g y (c.declared x) (k.declared x y (sym (g.names.declared x.0) ∙ p));
   schemes = λ b. subst (λ (o : Option TyId). ShowsAny new o (c.scheme b)) (sym (g.names.schemes b)) (shows_any_grow old new r g (old.schemes b) (c.scheme b) (k.schemes b));
   operations = λ op x p. shows_grow old new r g x (c.operation op) (k.operations op x (ap (λ (xs : List TyId). slice_get xs (op_place op)) (sym g.names.operations) ∙ p));
   closed_links = λ x y h p. (let below : x.0 < old.mark = omega (arith, h, g.names.mark) in let q = k.closed_links x y below (sym (link_same old new (longer old new g) x (omega (arith, below, r.mark_within))) ∙ p) in omega (arith, q, g.names.mark));
@@ -57,30 +50,9 @@ top_none s new decls c b node x is knows k =
     let shown = subst (λ (o : Option TyId). ShowsAny s o (c.scheme b)) is (k.schemes b) in
     subst (λ (o : Option Tree). Lowers s new (top o b node) x) (sym shown) (knows_lowers s new (Binder b) x k.ready knows)
 
-all_show : (s : Store) (declared : TyId → Tree) (args : List ArgInfo) → ((k : ℕ) (a : ArgInfo) → slice_get args k ≡ Some a → Shows s a.ty (declared a.ty)) → AllShow s declared args
-all_show s declared [] h = tt
-all_show s declared (a ∷ args) h = (h 0 a refl, all_show s declared args (λ k b e. h (suc k) b e))
-
-pub arguments_show : (s : Store) (decls : List DeclInfo) (c : Context) (i j : ℕ) (q : ConInfo) → IsRead s decls c → slice_get (cons_of (slice_get decls i)) j ≡ Some q → AllShow s c.declared q.args
-arguments_show s decls c i j q k e = by (slice_get decls i) refl e
-  where
-    by : (o : Option DeclInfo) → slice_get decls i ≡ o → slice_get (cons_of o) j ≡ Some q → AllShow s c.declared q.args
-    by None p f = absurd (let g : None ≡ Some q = f in cc)
-    by (Some d) p f = all_show s c.declared q.args (λ l a h. k.arguments i j l d q a p f h)
-
-pub field_shows : (s : Store) (decls : List DeclInfo) (c : Context) (i j : ℕ) (f : FieldInfo) → IsRead s decls c → slice_get (fields_of (slice_get decls i)) j ≡ Some f → Shows s f.arg.ty (c.declared f.arg.ty)
-field_shows s decls c i j f k e = by (slice_get decls i) refl e
-  where
-    by : (o : Option DeclInfo) → slice_get decls i ≡ o → slice_get (fields_of o) j ≡ Some f → Shows s f.arg.ty (c.declared f.arg.ty)
-    by None p h = absurd (let g : None ≡ Some f = h in cc)
-    by (Some d) p h = k.fields i j d f p h
-
-pub abbreviation_shows : (s : Store) (decls : List DeclInfo) (c : Context) (i : ℕ) (x : TyId) → IsRead s decls c → alias_of (slice_get decls i) ≡ Some x → Shows s x (c.declared x)
-abbreviation_shows s decls c i x k e = by (slice_get decls i) refl e
-  where
-    by : (o : Option DeclInfo) → slice_get decls i ≡ o → alias_of o ≡ Some x → Shows s x (c.declared x)
-    by None p h = absurd (let g : None ≡ Some x = h in cc)
-    by (Some d) p h = k.abbreviations i d x p h
+-- a declared type at the fresh types of a node, by the id at which abbreviations are expanded
+pub declared_lowers : (s new : Store) (decls : List DeclInfo) (c : Context) (ty y x : TyId) (node : ℕ) → s.declared ty.0 ≡ Some y → ((w : Tree) → IsReady s → Stands s.nodes s.bound y w → Lowers s new (at_fresh node w) x) → IsRead s decls c → Lowers s new (at_fresh node (c.declared ty)) x
+declared_lowers s new decls c ty y x node is lowers k = lowers (c.declared ty) k.ready (k.declared ty y is).stands
 
 pub named_plain : (declared : TyId → Tree) (d : ℕ) (hs : List Shape) (o : Option DeclInfo) → alias_of o ≡ None → named declared d hs o ≡ Make (ConHead d (length hs)) (shapes hs)
 named_plain declared d hs None e = refl

@@ -12,7 +12,7 @@ use Rattle.hm_unify.proofs.Ends.{Ends-unique}
 use Rattle.hm_terms.specs.Stores.{Store, state, AddsNode, IsReady, Grows}
 use Rattle.hm_terms.specs.Shapes.{Holds, HoldAll, Lowers, Puts}
 use Rattle.hm_terms.specs.Copies.{Table, Copied, Copies, AreCopies, Rebuilt}
-use Rattle.hm_terms.specs.declared.instance.Put.{Put}
+use Rattle.hm_terms.specs.declared.instances.Put.{Put}
 use Rattle.hm_terms.proofs.Growth.{longer, ends_grow, ends_within, node_old, length_longer, grows_same}
 use Rattle.hm_terms.proofs.Holding.{grows_node, node_holds, node_lowers, holds_grows}
 use Rattle.hm_terms.proofs.Putting.{puts_grow}

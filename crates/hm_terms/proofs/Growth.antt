@@ -150,7 +150,7 @@ grows_same s = record {
   nodes = sym (append-nil s.nodes);
   bound = λ n. refl;
   ids = λ u x h. h;
-  names = record { schemes = λ b. refl; operations = refl; mark = refl };
+  names = record { schemes = λ b. refl; operations = refl; declared = λ n. refl; mark = refl };
   ready = λ r. r;
   extends = λ r t a k. record { types = t; reading = k; agrees = λ x h. refl };
 }
@@ -161,7 +161,7 @@ grows_then a b c g k = record {
   nodes = k.nodes ∙ ap (λ (ns : List TyNode). ns ++ k.more) g.nodes ∙ append_assoc a.nodes g.more k.more;
   bound = λ n. k.bound n ∙ g.bound n;
   ids = λ u x h. k.ids u x (g.ids u x h);
-  names = record { schemes = λ n. k.names.schemes n ∙ g.names.schemes n; operations = k.names.operations ∙ g.names.operations; mark = k.names.mark ∙ g.names.mark };
+  names = record { schemes = λ n. k.names.schemes n ∙ g.names.schemes n; operations = k.names.operations ∙ g.names.operations; declared = λ n. k.names.declared n ∙ g.names.declared n; mark = k.names.mark ∙ g.names.mark };
   ready = λ r. k.ready (g.ready r);
   extends = λ r t as_ h. extended r t as_ (g.extends r t as_ h);
 }

@@ -8,8 +8,8 @@ use Rattle.ml_typing.specs.declared.equation.Unknown.TheVariants.{Fresh}
 use Rattle.ml_typing.specs.Terms.{Shape, no_shape, shape_at}
 use Rattle.hm_terms.specs.Stores.{Store, AddsNode, Knows, IsReady, Grows}
 use Rattle.hm_terms.specs.Shapes.{Holds, HoldAll, Lowers, Puts}
-use Rattle.hm_terms.specs.declared.instance.Put.{Put}
-use Rattle.hm_terms.specs.declared.instance.Put.TheVariants as p
+use Rattle.hm_terms.specs.declared.instances.Put.{Put}
+use Rattle.hm_terms.specs.declared.instances.Put.TheVariants as p
 use Rattle.hm_terms.proofs.Growth.{grows_same}
 use Rattle.hm_terms.proofs.Holding.{knows_lowers, node_lowers, hold_all_grows}
 

@@ -7,7 +7,7 @@ use Rattle.ml_types.specs.Types.{Head, ConHead, TupleHead, ArrowHead, head_of, p
 use Rattle.hm_unify.specs.States.{IsHead}
 use Rattle.hm_terms.specs.Stores.{Store, state, AddsNode}
 use Rattle.hm_terms.specs.Copies.{Table, Copies, AreCopies, Rebuilt}
-use Rattle.hm_terms.specs.declared.instance.Put.{Put}
+use Rattle.hm_terms.specs.declared.instances.Put.{Put}
 use Rattle.hm_terms.proofs.Growth.{grows_same}
 
 pub rebuilt_same : (s : Store) (copies : Table) (id : TyId) (n : TyNode) (h : Head) → IsHead (state s) id n → head_of n ≡ Some h → AreCopies copies (parts_of n) (parts_of n) → Rebuilt s s copies id id

@@ -5,17 +5,16 @@ use Rattle.std.specs.Option.{option_map}
 use Rattle.std.proofs.lemmas.List.{map-append, drop_all}
 use Rattle.ml_types.specs.declared.node.TyId.{TyId}
 use Rattle.ml_types.specs.declared.node.TyNode.TheVariants.{Arrow}
-use Rattle.ml_types.specs.Types.{Tree}
 use Rattle.ml_types.specs.declared.declared.ArgInfo.{ArgInfo}
+use Rattle.ml_types.specs.declared.declared.DeclInfo.{DeclInfo}
 use Rattle.ml_typing.specs.Terms.{Shape, at_fresh, function, Context, shape_of}
 use Rattle.ml_typing.specs.declared.equation.Term.{Term}
-use Rattle.hm_unify.specs.Solutions.{Stands}
 use Rattle.hm_terms.specs.Stores.{Store, AddsNode, IsReady}
 use Rattle.hm_terms.specs.Shapes.{Holds, HoldAll, Lowers, LowersAll}
-use Rattle.hm_terms.specs.Contexts.{Shows, AllShow}
+use Rattle.hm_terms.specs.Contexts.{IsRead}
 use Rattle.hm_terms.proofs.Holding.{holds_grows, hold_length}
 use Rattle.hm_terms.proofs.Building.{lowers_more, lowers_then, arrow_lowers}
-use Rattle.hm_terms.proofs.Contexts.{shows_grow}
+use Rattle.hm_terms.proofs.Contexts.{read_grows}
 
 take_suc : {A : Type 0} (xs : List A) (n : ℕ) (x : A) → slice_get xs n ≡ Some x → take (suc n) xs ≡ take n xs ++ x ∷ []
 take_suc [] n x e = absurd (let q : None ≡ Some x = e in cc)
@@ -36,23 +35,17 @@ mapped : {A B : Type 0} (f : A → B) (o : Option A) (y : B) → option_map f o 
 mapped f None y e = absurd (let q : None ≡ Some y = e in cc)
 mapped f (Some x) y e = (x, refl, cc)
 
-show_at : (s : Store) (declared : TyId → Tree) (args : List ArgInfo) (n : ℕ) (a : ArgInfo) → AllShow s declared args → slice_get args n ≡ Some a → Shows s a.ty (declared a.ty)
-show_at s declared [] n a k e = absurd (let q : None ≡ Some a = e in cc)
-show_at s declared (b ∷ args) zero a k e = let q : b ≡ a = cc in subst (λ (z : ArgInfo). Shows s z.ty (declared z.ty)) q k.0
-show_at s declared (b ∷ args) (suc n) a k e = show_at s declared args n a k.1 e
-
 abbrev ty_at : List ArgInfo → ℕ → TyId → Type 0
 ty_at args n ty = Some ty ≡ option_map (λ (a : ArgInfo). a.ty) (slice_get args n)
 
 -- one field more
-pub argument_next : (first old new : Store) (declared : TyId → Tree) (args : List ArgInfo) (n node : ℕ) (ty x : TyId) (xs ys : List TyId) → IsReady first → AllShow first declared args → ty_at args n ty → ((w : Tree) → IsReady old → Stands old.nodes old.bound ty w → Lowers old new (at_fresh node w) x) → LowersAll first old (map (λ (a : ArgInfo). at_fresh node (declared a.ty)) (take n args)) xs → ys ≡ xs ++ x ∷ [] → LowersAll first new (map (λ (a : ArgInfo). at_fresh node (declared a.ty)) (take (n + 1) args)) ys
-argument_next first old new declared args n node ty x xs ys r shows at lowers l grown =
+pub argument_next : (first old new : Store) (decls : List DeclInfo) (c : Context) (args : List ArgInfo) (n node : ℕ) (ty x : TyId) (xs ys : List TyId) → IsRead first decls c → ty_at args n ty → (IsRead old decls c → Lowers old new (at_fresh node (c.declared ty)) x) → LowersAll first old (map (λ (a : ArgInfo). at_fresh node (c.declared a.ty)) (take n args)) xs → ys ≡ xs ++ x ∷ [] → LowersAll first new (map (λ (a : ArgInfo). at_fresh node (c.declared a.ty)) (take (n + 1) args)) ys
+argument_next first old new decls c args n node ty x xs ys k at lowers l grown =
     let found = mapped (λ (a : ArgInfo). a.ty) (slice_get args n) ty (sym at) in
-    let shown = shows_grow first old r l.grows found.0.ty (declared found.0.ty) (show_at first declared args n found.0 shows found.1) in
-    let stands : Stands old.nodes old.bound ty (declared found.0.ty) = subst (λ (z : TyId). Stands old.nodes old.bound z (declared found.0.ty)) found.2 shown.stands in
-    lowers_more first old new (map (λ (a : ArgInfo). at_fresh node (declared a.ty)) (take n args)) _ xs ys (at_fresh node (declared found.0.ty)) x r l
-    (lowers (declared found.0.ty) (l.grows.ready r) stands)
-    (map_take (λ (a : ArgInfo). at_fresh node (declared a.ty)) args n found.0 found.1) grown
+    let one = lowers (read_grows first old decls c k l.grows) in
+    lowers_more first old new (map (λ (a : ArgInfo). at_fresh node (c.declared a.ty)) (take n args)) _ xs ys (at_fresh node (c.declared found.0.ty)) x k.ready l
+    (subst (λ (z : TyId). Lowers old new (at_fresh node (c.declared z)) x) (sym found.2) one)
+    (map_take (λ (a : ArgInfo). at_fresh node (c.declared a.ty)) args n found.0 found.1) grown
 
 drop_zero : (hs : List Shape) → drop 0 hs ≡ hs
 drop_zero [] = refl

@@ -1,12 +1,9 @@
 -- What terms are read by, as what the solver knows of it.
-use Rattle.std.specs.Prelude.{◌≡◌, ℕ, ◌<◌, List, [], ◌∷◌, Option, Some, None, slice_get}
+use Rattle.std.specs.Prelude.{◌≡◌, ℕ, ◌<◌, List, Option, Some, None, slice_get}
 use Rattle.ml_types.specs.declared.node.TyId.{TyId}
 use Rattle.ml_types.specs.declared.node.TyNode.{TyNode}
 use Rattle.ml_types.specs.Types.{Tree, parts_of}
 use Rattle.ml_types.specs.declared.declared.DeclInfo.{DeclInfo}
-use Rattle.ml_types.specs.declared.declared.ConInfo.{ConInfo}
-use Rattle.ml_types.specs.declared.declared.ArgInfo.{ArgInfo}
-use Rattle.ml_types.specs.declared.declared.FieldInfo.{FieldInfo}
 use Rattle.ml_tree.specs.declared.reference.Op.{Op}
 use Rattle.ml_tree.specs.declared.reference.Op.TheVariants.{PrintString, PrintInt, PrintChar, PrerrString, StringOfInt, IntOfChar, CharOfInt, StringLength, StringGet, Exit, Failwith}
 use Rattle.ml_typing.specs.Terms.{Context}
@@ -37,28 +34,17 @@ abbrev pub ShowsAny : Store → Option TyId → Option Tree → Type 0
 ShowsAny s None w = w ≡ None
 ShowsAny s (Some x) w = (t : Tree) × (w ≡ Some t) × Shows s x t
 
--- the declarations, the declared types, the operations and the schemes are those of the context
+-- the declarations, the declared types that have ids, the operations and the schemes are those of the context
 pub record IsRead (s : Store) (decls : List DeclInfo) (c : Context) : Type 0 where
   pub ready : IsReady s
   pub decls_are : c.decls ≡ decls
-  pub abbreviations : (i : ℕ) (d : DeclInfo) (x : TyId) → slice_get decls i ≡ Some d → d.alias ≡ Some x → Shows s x (c.declared x)
-  pub arguments : (i j k : ℕ) (d : DeclInfo) (q : ConInfo) (a : ArgInfo) → slice_get decls i ≡ Some d → slice_get d.cons j ≡ Some q → slice_get q.args k ≡ Some a → Shows s a.ty (c.declared a.ty)
-  pub fields : (i j : ℕ) (d : DeclInfo) (f : FieldInfo) → slice_get decls i ≡ Some d → slice_get d.fields j ≡ Some f → Shows s f.arg.ty (c.declared f.arg.ty)
+  pub declared : (x y : TyId) → s.declared x.0 ≡ Some y → Shows s y (c.declared x)
   pub schemes : (b : ℕ) → ShowsAny s (s.schemes b) (c.scheme b)
   pub operations : (op : Op) (x : TyId) → slice_get s.operations (op_place op) ≡ Some x → Shows s x (c.operation op)
   pub closed_links : (x y : TyId) → x.0 < s.mark → link s.nodes s.bound x ≡ Some y → y.0 < s.mark
   pub closed_parts : (x p : TyId) (n : TyNode) (i : ℕ) → x.0 < s.mark → node_at s.nodes x ≡ Some n → slice_get (parts_of n) i ≡ Some p → p.0 < s.mark
 
--- how many parameters a declaration has, and what it abbreviates
+-- how many parameters a declaration has
 abbrev pub vars_of : Option DeclInfo → ℕ
 vars_of None = 0
 vars_of (Some d) = d.vars
-
-abbrev pub alias_of : Option DeclInfo → Option TyId
-alias_of None = None
-alias_of (Some d) = d.alias
-
--- the types of fields
-abbrev pub AllShow : Store → (TyId → Tree) → List ArgInfo → Type 0
-AllShow s declared [] = Unit {0}
-AllShow s declared (a ∷ as_) = Shows s a.ty (declared a.ty) × AllShow s declared as_

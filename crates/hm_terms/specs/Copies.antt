@@ -8,7 +8,7 @@ use Rattle.hm_unify.specs.Solutions.{Stands}
 use Rattle.hm_unify.specs.States.{IsHead}
 use Rattle.hm_terms.specs.Stores.{Store, state, IsReady, Grows, AddsNode}
 use Rattle.hm_terms.specs.Shapes.{Holds, Puts}
-use Rattle.hm_terms.specs.declared.instance.Put.{Put}
+use Rattle.hm_terms.specs.declared.instances.Put.{Put}
 
 -- the ids that have copies, with these
 abbrev pub Table : Type 0

@@ -7,8 +7,8 @@ use Rattle.ml_typing.specs.declared.equation.Unknown.TheVariants.{Fresh}
 use Rattle.ml_typing.specs.Terms.{Shape, Is, shape_at}
 use Rattle.ml_typing.specs.Typing.{Assignment, tree_of, StandsIn}
 use Rattle.hm_terms.specs.Stores.{Store, Reading, IsOwn, Grows}
-use Rattle.hm_terms.specs.declared.instance.Put.{Put}
-use Rattle.hm_terms.specs.declared.instance.Put.TheVariants.{Arguments, Fresh as FreshAt}
+use Rattle.hm_terms.specs.declared.instances.Put.{Put}
+use Rattle.hm_terms.specs.declared.instances.Put.TheVariants.{Arguments, Fresh as FreshAt}
 
 -- in each reading the id has the type that the shape then is; each unknown of the shape has a type, and
 -- the id is the item's own

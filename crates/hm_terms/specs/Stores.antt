@@ -26,18 +26,20 @@ pub record Store : Type 0 where
   pub ids : Unknown → Option TyId
   pub schemes : ℕ → Option TyId
   pub operations : List TyId
+  pub declared : ℕ → Option TyId
   pub mark : ℕ
 
 abbrev pub store : Solver → Store
-store s = record { nodes = s.table.bindings.nodes; bound = s.table.bindings.bound; ids = id_of s.ids; schemes = get nat_eq s.schemes; operations = s.operations.items; mark = s.mark }
+store s = record { nodes = s.table.bindings.nodes; bound = s.table.bindings.bound; ids = id_of s.ids; schemes = get nat_eq s.schemes; operations = s.operations.items; declared = get nat_eq s.declared; mark = s.mark }
 
 abbrev pub state : Store → State
 state s = record { nodes = s.nodes; bound = s.bound }
 
--- the same names and operations, and the same mark
+-- the same names, operations and declared types, and the same mark
 pub record SameNames (old new : Store) : Type 0 where
   pub schemes : (b : ℕ) → new.schemes b ≡ old.schemes b
   pub operations : new.operations ≡ old.operations
+  pub declared : (n : ℕ) → new.declared n ≡ old.declared n
   pub mark : new.mark ≡ old.mark
 
 -- one node more, whose parts were there
@@ -115,6 +117,7 @@ pub record Generalises (old new : Store) (binder : ℕ) (id : TyId) : Type 0 whe
   pub there : new.schemes binder ≡ Some id
   pub others : (b : ℕ) → (b ≡ binder → ⊥) → new.schemes b ≡ old.schemes b
   pub operations : new.operations ≡ old.operations
+  pub declared : (n : ℕ) → new.declared n ≡ old.declared n
   pub mark : new.mark ≡ old.mark
 
 -- an operation more has a type
@@ -124,6 +127,7 @@ pub record AddsOperation (old new : Store) (id : TyId) : Type 0 where
   pub ids : (u : Unknown) → new.ids u ≡ old.ids u
   pub schemes : (b : ℕ) → new.schemes b ≡ old.schemes b
   pub operations : new.operations ≡ old.operations ++ id ∷ []
+  pub declared : (n : ℕ) → new.declared n ≡ old.declared n
   pub mark : new.mark ≡ old.mark
 
 -- no unknown has come up, and all nodes are from before
@@ -133,4 +137,16 @@ pub record Forgets (old new : Store) : Type 0 where
   pub none : (u : Unknown) → new.ids u ≡ None
   pub schemes : (b : ℕ) → new.schemes b ≡ old.schemes b
   pub operations : new.operations ≡ old.operations
+  pub declared : (n : ℕ) → new.declared n ≡ old.declared n
   pub mark : new.mark ≡ length old.nodes
+
+-- a declared type more has an id
+pub record Declares (old new : Store) (n : ℕ) (id : TyId) : Type 0 where
+  pub nodes : new.nodes ≡ old.nodes
+  pub bound : new.bound ≡ old.bound
+  pub ids : (u : Unknown) → new.ids u ≡ old.ids u
+  pub schemes : (b : ℕ) → new.schemes b ≡ old.schemes b
+  pub operations : new.operations ≡ old.operations
+  pub there : new.declared n ≡ Some id
+  pub others : (k : ℕ) → (k ≡ n → ⊥) → new.declared k ≡ old.declared k
+  pub mark : new.mark ≡ old.mark

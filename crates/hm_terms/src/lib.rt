@@ -3,11 +3,12 @@
 
 mod counted;
 mod ids;
-mod instance;
+mod instances;
 mod lowering;
 mod nodes;
 mod solver;
 
 pub use ids::Ids;
+pub use instances::{Put, instance};
 pub use lowering::type_of;
 pub use solver::Solver;

@@ -1,15 +1,16 @@
 //! Terms of equations as types of the bindings.
 ghost use Rattle.std.specs.Prelude.{◌≡◌, ◌+◌, ◌-◌, ◌<◌, IfOk, IfSome, IsNone, Some, List, [], ◌∷◌, length, map, option_map, slice_get};
-ghost use Rattle.ml_types.specs.declared.node.TyId.{TyId as TyIdValue};
 ghost use Rattle.ml_types.specs.declared.declared.ArgInfo.{ArgInfo as ArgValue};
+ghost use Rattle.ml_types.specs.declared.declared.DeclInfo.{DeclInfo as DeclValue};
 ghost use Rattle.ml_typing.specs.Terms.{Shape, Context, shape_of, top, made, argument, field, named, function, at_fresh, cons_of, fields_of, product, no_shape, fresh_from};
+ghost use Rattle.ml_typing.specs.Typing.{alias_of};
 ghost use Rattle.ml_types.specs.Types.{Tree};
 ghost use Rattle.hm_unify.specs.Solutions.{Stands};
 ghost use Rattle.hm_terms.specs.Stores.{store, IsReady};
 ghost use Rattle.hm_terms.specs.Shapes.{Lowers, LowersAll, Holds, HoldAll};
-ghost use Rattle.hm_terms.specs.Contexts.{IsRead, AllShow, vars_of, alias_of};
+ghost use Rattle.hm_terms.specs.Contexts.{IsRead, vars_of};
 
-use crate::instance::{Put, instance};
+use crate::instances::{Put, instance};
 use crate::solver::Solver;
 use ml_tree::Op;
 use ml_types::{ArgInfo, ConInfo, DeclInfo, Decls, FieldInfo, TyId, TyNode};
@@ -63,6 +64,21 @@ fn fresh_instance(solver: &mut Solver, id: TyId, node: u32) -> Result<TyId, NoMe
     ensures { IfOk result (λ x. (w : Tree) → IsReady (store solver.old) → Stands (store solver.old).nodes (store solver.old).bound id w → Lowers (store solver.old) (store solver.new) (at_fresh node w) x) }
 {
     instance(solver, id, Put::Fresh(node))
+}
+
+/// The id of a declared type, in which abbreviations are expanded.
+fn declared_type(solver: &Solver, ty: TyId) -> Result<TyId, NoMemory>
+    ensures { IfOk result (λ y. (store solver.now).declared ty.0 ≡ Some y) }
+{
+    solver.declared(ty).ok_or(NoMemory)
+}
+
+/// A declared type at the fresh types of a node.
+fn declared_instance(solver: &mut Solver, ty: TyId, node: u32) -> Result<TyId, NoMemory>
+    ensures { IfOk result (λ x. (decls : List DeclValue) (c : Context) → IsRead (store solver.old) decls c → Lowers (store solver.old) (store solver.new) (at_fresh node (c.declared ty)) x) }
+{
+    let expanded = declared_type(solver, ty)?;
+    fresh_instance(solver, expanded, node)
 }
 
 /// The type of a top-level name at a use.
@@ -160,7 +176,7 @@ fn argument_type(
 
 /// The product of a constructor's fields at the fresh types of a node, or the one field's type.
 fn whole_argument(solver: &mut Solver, args: &[ArgInfo], node: u32) -> Result<TyId, NoMemory>
-    ensures { IfOk result (λ x. (declared : TyIdValue → Tree) → IsReady (store solver.old) → AllShow (store solver.old) declared args.now → Lowers (store solver.old) (store solver.new) (product (map (λ (a : ArgValue). at_fresh node (declared a.ty)) args.now)) x) }
+    ensures { IfOk result (λ x. (decls : List DeclValue) (c : Context) → IsRead (store solver.old) decls c → Lowers (store solver.old) (store solver.new) (product (map (λ (a : ArgValue). at_fresh node (c.declared a.ty)) args.now)) x) }
 {
     let ids = argument_types(solver, args, node)?;
     product_type(solver, ids)
@@ -168,14 +184,14 @@ fn whole_argument(solver: &mut Solver, args: &[ArgInfo], node: u32) -> Result<Ty
 
 /// The types of a constructor's fields at the fresh types of a node.
 fn argument_types(solver: &mut Solver, args: &[ArgInfo], node: u32) -> Result<Items<TyId>, NoMemory>
-    ensures { IfOk result (λ xs. (declared : TyIdValue → Tree) → IsReady (store solver.old) → AllShow (store solver.old) declared args.now → LowersAll (store solver.old) (store solver.new) (map (λ (a : ArgValue). at_fresh node (declared a.ty)) args.now) xs) }
+    ensures { IfOk result (λ xs. (decls : List DeclValue) (c : Context) → IsRead (store solver.old) decls c → LowersAll (store solver.old) (store solver.new) (map (λ (a : ArgValue). at_fresh node (c.declared a.ty)) args.now) xs) }
 {
     let mut ids = Items::new(solver.alloc);
     for number in 0..args.len() {
         let Some(ty) = argument_at(args, number) else {
             return Err(NoMemory)
         };
-        let id = fresh_instance(solver, ty, node)?;
+        let id = declared_instance(solver, ty, node)?;
         ids.push(id)?;
     }
     Ok(ids)
@@ -227,7 +243,7 @@ fn field_type(
     ensures { IfOk result (λ x. (c : Context) → IsRead (store solver.old) d.now.types c → Lowers (store solver.old) (store solver.new) (field c.declared node (slice_get (fields_of (slice_get d.now.types decl)) number)) x) }
 {
     match field_at(d, decl, number) {
-        Some(info) => fresh_instance(solver, info.arg.ty, node),
+        Some(info) => declared_instance(solver, info.arg.ty, node),
         None => nothing(solver),
     }
 }
@@ -253,7 +269,10 @@ fn named_type(
 {
     match abbreviated(d, decl) {
         None => solver.add(TyNode::Con(decl, args)),
-        Some(body) => instance(solver, body, Put::Arguments(args.as_slice())),
+        Some(body) => {
+            let expanded = declared_type(solver, body)?;
+            instance(solver, expanded, Put::Arguments(args.as_slice()))
+        }
     }
 }
 

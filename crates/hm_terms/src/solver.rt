@@ -6,7 +6,7 @@ ghost use Rattle.ml_types.specs.declared.node.TyNode.TheVariants.{Arrow, Tuple};
 ghost use Rattle.ml_typing.specs.declared.equation.Unknown.{Unknown as UnknownValue};
 ghost use Rattle.hm_unify.specs.Solutions.{Stands};
 ghost use Rattle.hm_unify.specs.States.{IsTable, IsNew, IsHead, IsSound, IsTableOf, Equated, Refused};
-ghost use Rattle.hm_terms.specs.Stores.{store, state, id_of, AddsNode, AddsOperation, Forgets, Generalises, Knows, SameNames};
+ghost use Rattle.hm_terms.specs.Stores.{store, state, id_of, AddsNode, AddsOperation, Declares, Forgets, Generalises, Knows, SameNames};
 ghost use Rattle.hm_terms.specs.Contexts.{op_place};
 
 use crate::counted::Counted;
@@ -32,6 +32,9 @@ pub struct Solver {
     schemes: HashMap<u32, TyId>,
     /// The types of the operations, in their order.
     operations: Vec<TyId>,
+    /// The ids of declared types in which abbreviations are expanded, by their ids in the table of the
+    /// declarations.
+    declared: HashMap<u32, TyId>,
     /// The first slot that no arrow has.
     slots: u32,
 }
@@ -45,6 +48,7 @@ impl Solver {
         ensures ids { IfOk result (λ s. (u : UnknownValue) → id_of s.ids u ≡ None) }
         ensures schemes { IfOk result (λ s. (b : ℕ) → get nat_eq s.schemes b ≡ None) }
         ensures operations { IfOk result (λ s. s.operations.items ≡ []) }
+        ensures declared { IfOk result (λ s. (n : ℕ) → get nat_eq s.declared n ≡ None) }
         ensures slots { IfOk result (λ s. s.slots ≡ slots) }
     {
         let table = Counted::new(alloc, types)?;
@@ -56,6 +60,7 @@ impl Solver {
             ids: Ids::new(alloc),
             schemes: HashMap::new(alloc),
             operations: Vec::new(alloc),
+            declared: HashMap::new(alloc),
             slots,
         })
     }
@@ -160,6 +165,22 @@ impl Solver {
     {
         self.schemes.insert(binder, id)?;
         Ok(())
+    }
+
+    /// From now on the declared type has this id.
+    pub fn declare(&mut self, ty: TyId, id: TyId) -> Result<(), NoMemory>
+        ensures declares { OnOk result (Declares (store self.old) (store self.new) ty.0 id) }
+        ensures slots { self.new.slots ≡ self.old.slots }
+    {
+        self.declared.insert(ty.0, id)?;
+        Ok(())
+    }
+
+    /// The id of a declared type; `None` where it has none.
+    pub fn declared(&self, ty: TyId) -> Option<TyId>
+        ensures { result ≡ (store self.now).declared ty.0 }
+    {
+        self.declared.get(&ty.0).copied()
     }
 
     /// The next operation has this type.

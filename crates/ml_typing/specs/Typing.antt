@@ -1,10 +1,10 @@
 -- Typings: finite types for which all equations hold, and which typings are principal.
-use Rattle.std.specs.Prelude.{◌≡◌, ◌⊎◌, ℕ, false, true, Bool, List, [], ◌∷◌, ◌++◌, map, Option, Some, None, cond, nat_eq, slice_get}
+use Rattle.std.specs.Prelude.{◌≡◌, ◌⊎◌, ℕ, zero, suc, false, true, Bool, List, [], ◌∷◌, ◌++◌, map, Option, Some, None, cond, nat_eq, slice_get}
 use Rattle.ml_types.specs.declared.node.TyId.{TyId}
 use Rattle.ml_types.specs.declared.node.TyNode.{TyNode}
-use Rattle.ml_types.specs.declared.node.TyNode.TheVariants.{Var}
+use Rattle.ml_types.specs.declared.node.TyNode.TheVariants.{Var, Con, Tuple, Arrow}
 use Rattle.ml_types.specs.declared.declared.DeclInfo.{DeclInfo}
-use Rattle.ml_types.specs.Types.{Head, ConHead, ArrowHead, head_of, parts_of, Tree, Leaf, Node, Trees, Nil, Cons, trees}
+use Rattle.ml_types.specs.Types.{Head, ConHead, TupleHead, ArrowHead, head_of, parts_of, Tree, Leaf, Node, Trees, Nil, Cons, trees}
 use Rattle.ml_tree.specs.declared.reference.Ref.{Ref}
 use Rattle.ml_tree.specs.declared.reference.TyRef.{TyRef}
 use Rattle.ml_tree.specs.declared.reference.Op.{Op}
@@ -143,9 +143,28 @@ operation_type StringGet = arrow_type (plain_type 2) (arrow_type (plain_type 0) 
 operation_type Exit = arrow_type (plain_type 0) (Leaf 0)
 operation_type Failwith = arrow_type (plain_type 2) (Leaf 0)
 
--- the type of each id of a table, its variables as leaves
-pub record Reads (nodes : List TyNode) (declared : TyId → Tree) : Type 0 where
-  pub made : (x : TyId) (n : TyNode) (h : Head) → slice_get nodes x.0 ≡ Some n → head_of n ≡ Some h → declared x ≡ Node h (trees declared (parts_of n))
+-- what a node of a table abbreviates
+abbrev pub alias_of : Option DeclInfo → Option TyId
+alias_of None = None
+alias_of (Some d) = d.alias
+
+abbrev pub abbreviated : List DeclInfo → TyNode → Option TyId
+abbreviated decls (Var v) = None
+abbreviated decls (Con d args) = alias_of (slice_get decls d)
+abbreviated decls (Tuple parts) = None
+abbreviated decls (Arrow slot from to) = None
+
+-- the argument at a place; the empty product past the last
+abbrev pub tree_at : List Tree → ℕ → Tree
+tree_at [] n = Node (TupleHead 0) Nil
+tree_at (t ∷ ts) zero = t
+tree_at (t ∷ ts) (suc n) = tree_at ts n
+
+-- the type of each id of a table, its variables as leaves, and abbreviations as the types that they
+-- stand for
+pub record Reads (decls : List DeclInfo) (nodes : List TyNode) (declared : TyId → Tree) : Type 0 where
+  pub made : (x : TyId) (n : TyNode) (h : Head) → slice_get nodes x.0 ≡ Some n → head_of n ≡ Some h → abbreviated decls n ≡ None → declared x ≡ Node h (trees declared (parts_of n))
+  pub expanded : (x : TyId) (n : TyNode) (b : TyId) → slice_get nodes x.0 ≡ Some n → abbreviated decls n ≡ Some b → declared x ≡ at_types (tree_at (map declared (parts_of n))) (declared b)
   pub variable : (x : TyId) (v : ℕ) → slice_get nodes x.0 ≡ Some (Var v) → declared x ≡ Leaf v
 
 -- before the first item no name has a scheme

@@ -6,17 +6,13 @@ use Rattle.ml_types.specs.declared.declared.ConInfo.{ConInfo}
 use Rattle.ml_typing.specs.Terms.{argument, at_fresh, product, cons_of}
 use Rattle.hm_terms.specs.Stores.{store}
 use Rattle.hm_terms.specs.Shapes.{Lowers}
-use Rattle.hm_terms.specs.Contexts.{AllShow}
-use Rattle.hm_terms.proofs.Contexts.{arguments_show}
 use Rattle.hm_terms.proofs.lowering.argument_type.Goals as goal
 
 pub returns-in-Some : goal.returns-in-Some
 returns-in-Some c = IfOk-weaker c.whole_argument.result _ _
     (λ x l d k.
     let at : slice_get (cons_of (slice_get c.args.d.now.types c.args.decl)) c.args.con ≡ Some c.in-Some.info.now = sym c.in-Some.ensures in
-    let shows = arguments_show (store c.args.solver.now) c.args.d.now.types d c.args.decl c.args.con c.in-Some.info.now k at in
-    let shown : AllShow (store c.args.solver.now) d.declared c.as_slice.result.now = subst (λ (as_ : List ArgInfo). AllShow (store c.args.solver.now) d.declared as_) (sym c.as_slice.ensures) shows in
-    let p = l d.declared k.ready shown in
+    let p = l c.args.d.now.types d k in
     let q = subst (λ (as_ : List ArgInfo). Lowers (store c.args.solver.now) (store c.whole_argument.new.solver) (product (map (λ (a : ArgInfo). at_fresh c.args.node (d.declared a.ty)) as_)) x) c.as_slice.ensures p in
     subst (λ (o : Option ConInfo). Lowers (store c.args.solver.now) (store c.whole_argument.new.solver) (argument d.declared c.args.node o) x) (sym at) q)
     c.whole_argument.ensures

@@ -5,17 +5,15 @@ use Rattle.ml_types.specs.declared.declared.FieldInfo.{FieldInfo}
 use Rattle.ml_typing.specs.Terms.{field, fields_of}
 use Rattle.hm_terms.specs.Stores.{store}
 use Rattle.hm_terms.specs.Shapes.{Lowers}
-use Rattle.hm_terms.proofs.Contexts.{field_shows}
 use Rattle.hm_terms.proofs.lowering.field_type.Goals as goal
 
 pub returns-in-Some : goal.returns-in-Some
-returns-in-Some c = IfOk-weaker c.fresh_instance.result _ _
+returns-in-Some c = IfOk-weaker c.declared_instance.result _ _
     (λ x l d k.
     let at : slice_get (fields_of (slice_get c.args.d.now.types c.args.decl)) c.args.number ≡ Some c.in-Some.info.now = sym c.in-Some.ensures in
-    let shown = field_shows (store c.args.solver.now) c.args.d.now.types d c.args.decl c.args.number c.in-Some.info.now k at in
-    subst (λ (o : Option FieldInfo). Lowers (store c.args.solver.now) (store c.fresh_instance.new.solver) (field d.declared c.args.node o) x) (sym at)
-    (l (d.declared c.in-Some.info.now.arg.ty) k.ready shown.stands))
-    c.fresh_instance.ensures
+    subst (λ (o : Option FieldInfo). Lowers (store c.args.solver.now) (store c.declared_instance.new.solver) (field d.declared c.args.node o) x) (sym at)
+    (l c.args.d.now.types d k))
+    c.declared_instance.ensures
 
 pub returns-in-None : goal.returns-in-None
 returns-in-None c = IfOk-weaker c.nothing.result _ _

@@ -8,8 +8,8 @@ use Rattle.hm_terms.proofs.lowering.whole_argument.Goals as goal
 
 pub returns : goal.returns
 returns c = IfOk-weaker c.product_type.result _ _
-    (λ x p declared r shows.
-    let l = c.in_ok-ids.ensures declared r shows in
-    let hs = map (λ (a : ArgInfo). at_fresh c.args.node (declared a.ty)) c.args.args.now in
-    lowers_then (store c.args.solver.now) (store c.argument_types.new.solver) (store c.product_type.new.solver) (product hs) x l.grows (p hs (l.grows.ready r) l.hold))
+    (λ x p decls d k.
+    let l = c.in_ok-ids.ensures decls d k in
+    let hs = map (λ (a : ArgInfo). at_fresh c.args.node (d.declared a.ty)) c.args.args.now in
+    lowers_then (store c.args.solver.now) (store c.argument_types.new.solver) (store c.product_type.new.solver) (product hs) x l.grows (p hs (l.grows.ready k.ready) l.hold))
     c.product_type.ensures

@@ -2,7 +2,7 @@ use Rattle.std.proofs.Common.{sym}
 use Rattle.std.proofs.lemmas.Result.{IfOk-weaker}
 use Rattle.hm_terms.specs.Stores.{store}
 use Rattle.hm_terms.proofs.Putting.{fresh_put, argument_put, past_put}
-use Rattle.hm_terms.proofs.instance.type_for.Goals as goal
+use Rattle.hm_terms.proofs.instances.type_for.Goals as goal
 
 pub returns-in-Fresh : goal.returns-in-Fresh
 returns-in-Fresh c = IfOk-weaker c.unknown.result _ _ (λ x k f r p. fresh_put (store c.args.solver.now) (store c.unknown.new.self) c.args.put c.in-Fresh.node c.args.number x c.in-Fresh.is k f r p) c.unknown.ensures

@@ -5,7 +5,7 @@ use Rattle.ml_types.specs.declared.node.TyId.{TyId}
 use Rattle.hm_terms.specs.Stores.{store}
 use Rattle.hm_terms.specs.Copies.{AreCopies}
 use Rattle.hm_terms.proofs.Rebuilding.{con_new, con_same, tuple_new, tuple_same, arrow_new, arrow_same}
-use Rattle.hm_terms.proofs.instance.rebuilt.Goals as goal
+use Rattle.hm_terms.proofs.instances.rebuilt.Goals as goal
 
 pub returns-then-same_ids : goal.returns-then-same_ids
 returns-then-same_ids c =

@@ -2,7 +2,7 @@ use Rattle.std.proofs.Common.{nat_eq}
 use Rattle.std.specs.HashMap.{get}
 use Rattle.hm_terms.specs.Stores.{store}
 use Rattle.hm_terms.proofs.Copying.{copies_variable}
-use Rattle.hm_terms.proofs.instance.copy_variable.Goals as goal
+use Rattle.hm_terms.proofs.instances.copy_variable.Goals as goal
 
 pub returns : goal.returns
 returns c = λ h. copies_variable (store c.args.solver.now) (store c.type_for.new.solver) c.args.put (get nat_eq c.args.copies.now) (get nat_eq c.insert.new.self) c.args.id c.in_ok-copy.copy c.args.number c.in_ok-copy.ensures c.in_ok-insert.ensures.updates.0 h

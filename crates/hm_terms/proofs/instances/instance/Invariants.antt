@@ -4,7 +4,7 @@ use Rattle.ml_typing.specs.Terms.{Shape}
 use Rattle.hm_terms.specs.Stores.{store, IsReady, Grows}
 use Rattle.hm_terms.specs.Shapes.{Puts}
 use Rattle.hm_terms.specs.Copies.{Copied}
-use Rattle.hm_terms.proofs.instance.instance.Given as goal
+use Rattle.hm_terms.proofs.instances.instance.Given as goal
 
 abbrev pub invariant-loop-step : goal.invariant-loop-step
 invariant-loop-step l =

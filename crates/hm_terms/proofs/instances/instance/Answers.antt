@@ -3,7 +3,7 @@ use Rattle.std.specs.HashMap.{get}
 use Rattle.std.proofs.lemmas.Result.{IfOk-weaker}
 use Rattle.hm_terms.specs.Stores.{store}
 use Rattle.hm_terms.proofs.Growth.{grows_same, grows_then}
-use Rattle.hm_terms.proofs.instance.instance.Goals as goal
+use Rattle.hm_terms.proofs.instances.instance.Goals as goal
 
 pub loop-step-init : goal.loop-step-init
 loop-step-init c = λ f r p. (grows_same (store c.args.solver.now), λ k y e w s. absurd (let g : get nat_eq c.new-copies.result k ≡ None = search rules in let h : None ≡ Some y = sym g ∙ e in cc))

@@ -1,5 +1,5 @@
 use Rattle.std.proofs.Common.{◌≡◌, take}
-use Rattle.hm_terms.proofs.instance.same_ids.Given as goal
+use Rattle.hm_terms.proofs.instances.same_ids.Given as goal
 
 abbrev pub invariant-loop-at : goal.invariant-loop-at
 invariant-loop-at l = take l.at l.left ≡ take l.at l.right
