@@ -1,5 +1,5 @@
 -- What a type expression writes, by its form.
-use Rattle.std.proofs.Common.{◌≡◌, ℕ, List, [], map, length, sym, ap, ◌∙◌, subst}
+use Rattle.std.proofs.Common.{◌≡◌, ℕ, List, map, length, sym, ap, ◌∙◌, subst}
 use Rattle.oxml_base.specs.declared.span.Span.{Span}
 use Rattle.ml_tree.specs.declared.types.TyExpr.{TyExpr}
 use Rattle.ml_tree.specs.declared.types.Arg.{Arg}
@@ -14,7 +14,7 @@ use Rattle.ml_decls.specs.Lists.{find}
 use Rattle.ml_decls.specs.Said as s
 use Rattle.ml_decls.specs.Tables.{HasType}
 
-pub written_var : (types : List (ℕ × TyRef)) (name : Span) (id : ℕ) → s.kind_written types (T.Var name) id ≡ s.type_named [] (find types id)
+pub written_var : (types : List (ℕ × TyRef)) (name : Span) (id : ℕ) → s.kind_written types (T.Var name) id ≡ s.variable_type (find types id)
 written_var types name id = ap (λ (z : TyKind). s.kind_written types z id) (sym (T.rolls-Var name)) ∙ ap (λ (z : ℕ → Tree). z id) (fold-roll-TyKind (ℕ → Tree) Tree Tree (s.step types) (s.arg_step types) (s.node types) (t.Var name))
 
 pub written_con : (types : List (ℕ × TyRef)) (name : Span) (args : List TyExpr) (id : ℕ) → s.kind_written types (T.Con name args) id ≡ s.type_named (map (s.written types) args) (find types id)

@@ -30,9 +30,14 @@ type_named args None = Node (TupleHead 0) Nil
 type_named args (Some (r.Decl d)) = Node (ConHead d (length args)) (listed args)
 type_named args (Some (r.Var v)) = Leaf v
 
+-- a variable stands for no declaration: one that names none of the variables has no type of its own
+abbrev pub variable_type : Option TyRef → Tree
+variable_type (Some (r.Var v)) = Leaf v
+variable_type _ = Node (TupleHead 0) Nil
+
 module _ (types : List (ℕ × TyRef)) where
   abbrev pub step : TyKind-F (ℕ → Tree) Tree Tree → ℕ → Tree
-  step (t.Var name) id = type_named [] (find types id)
+  step (t.Var name) id = variable_type (find types id)
   step (t.Con name args) id = type_named args (find types id)
   step (t.Tuple parts) id = Node (TupleHead (length parts)) (listed parts)
   step (t.Arrow from to) id = Node ArrowHead (Cons from (Cons to Nil))

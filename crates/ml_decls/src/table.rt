@@ -4,7 +4,7 @@ ghost use Rattle.ml_types.specs.Types.{parts_of, Tree, Leaf, Node, Cons, Nil, Co
 ghost use Rattle.ml_types.specs.declared.node.TyId.{TyId};
 ghost use Rattle.ml_types.specs.declared.node.TyNode.TheVariants.{Var, Con, Tuple, Arrow};
 ghost use Rattle.ml_decls.specs.Lists.{find};
-ghost use Rattle.ml_decls.specs.Said.{type_named, listed, written, kind_written, arg_written, said_arg};
+ghost use Rattle.ml_decls.specs.Said.{type_named, variable_type, listed, written, kind_written, arg_written, said_arg};
 ghost use Rattle.ml_decls.specs.Tables.{IsMaking, HasType, Each, ArgSays, Grows, slot_of};
 
 use crate::references::target;
@@ -172,14 +172,18 @@ fn push_kind(s: &Scoped, id: u32, kind: &TyKind, made: &mut Making) -> Result<Ty
     }
 }
 
-/// A variable.
+/// A variable. Each has the reference of a variable.
 fn push_variable(target: Option<TyRef>, made: &mut Making) -> Result<TyId, NoMemory>
     ensures grows { OnOk result (Grows made.old.nodes made.new.nodes) }
-    ensures ty { IfOk result (λ id. HasType made.new.nodes id (type_named [] target)) }
+    ensures ty { IfOk result (λ id. HasType made.new.nodes id (variable_type target)) }
 {
-    let none = Items::new(made.alloc());
-    let id = push_named(target, none, made)?;
-    Ok(id)
+    match target {
+        Some(TyRef::Var(number)) => {
+            let id = push_var(number, made)?;
+            Ok(id)
+        }
+        Some(TyRef::Decl(_)) | None => Err(NoMemory),
+    }
 }
 
 /// A name behind arguments.
