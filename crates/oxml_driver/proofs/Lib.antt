@@ -2,6 +2,7 @@ mod BuiltInLemmas
 mod CommandLemmas
 mod CompileLemmas
 mod DecidedLemmas
+mod DeclaredTypes
 mod FormLemmas
 mod FrontLemmas
 mod LineLemmas
@@ -13,5 +14,8 @@ mod PrinterLoop
 mod PrinterMemory
 mod PrinterRun
 mod PrinterTexts
+mod SameContexts
 mod SameProgram
 mod TakenOnce
+mod TypeLemmas
+mod TypedOnce
