@@ -1,7 +1,7 @@
 //! Large sources, which are answered in time.
 
 use super::rows::{check_refused, check_typed};
-use super::tables::large::{ITEMS, LATE, USES, WIDE};
+use super::tables::large::{BINDERS, CHAIN, GREAT, ITEMS, LATE, USES};
 use std::test::Fail;
 
 #[test]
@@ -10,13 +10,19 @@ fn many_items(rt: HostRuntime) -> Result<(), Fail> {
 }
 
 #[test]
-fn wide_items(rt: HostRuntime) -> Result<(), Fail> {
-    check_typed(&rt, rt.alloc(), &WIDE)
+fn many_binders(rt: HostRuntime) -> Result<(), Fail> {
+    check_typed(&rt, rt.alloc(), &BINDERS)?;
+    check_typed(&rt, rt.alloc(), &CHAIN)
 }
 
 #[test]
 fn many_uses(rt: HostRuntime) -> Result<(), Fail> {
     check_typed(&rt, rt.alloc(), &USES)
+}
+
+#[test]
+fn great_types(rt: HostRuntime) -> Result<(), Fail> {
+    check_typed(&rt, rt.alloc(), &GREAT)
 }
 
 #[test]

@@ -1,30 +1,26 @@
 //! Large sources.
 
-/// Many small items: 200,000 tokens of constants, of functions, of declarations, and of uses of the item
-/// before.
-pub const ITEMS: [&str; 4] = [
-    "«50000 let x = 1 »",
-    "«40000 let f x = x »",
-    "«28571 type t# = A# of int »",
-    "let x = 0 «49999 let x = x »",
-];
+/// 200,000 tokens of many small items.
+pub const ITEMS: [&str; 1] = ["«28571 let f x = [x]»"];
 
-/// An item with many binders, and one with many parts.
-pub const WIDE: [&str; 3] = [
-    "let x = 0«19999  and x~ = 0»",
-    "let rec f0 x = x«9999  and f~ x = f# x»",
-    "let f = 0«19999 ; 0»",
-];
+/// An item with 20,000 binders.
+pub const BINDERS: [&str; 1] = ["let x = 0«19999  and x~ = 0»"];
 
-/// A name that is used many times: a function of an earlier item, a value of the greatest type, a
-/// parameter of no type so far, and functions nested as deep as can be.
-pub const USES: [&str; 5] = [
+/// 10,000 items, each of which has the type of the one before.
+pub const CHAIN: [&str; 1] = ["let x0 = 0«9999  let x~ = x#»"];
+
+/// Names that are used many times: a function of an earlier item, and a parameter that has no type yet.
+pub const USES: [&str; 2] = [
     "let id x = x let f = («20000 id 0; »0)",
-    "let t = 0«1998 , 0» let f = («2000 t; »0)",
-    "let f x = («20000 x; »0)",
+    "let f x = («20000 x; »x)",
+];
+
+/// The greatest type, many times, and types as deep as they can be written.
+pub const GREAT: [&str; 3] = [
+    "let t = 0«1998 , 0» let f = («50 t; »0)",
     "let f = «997 [»0«997 ]»",
     "let f = «996 fun x -> »0",
 ];
 
-/// The last of many steps makes a type too large.
+/// The last of more than 20,000 steps makes a type too large.
 pub const LATE: [&str; 1] = ["let t x = (x«665 , x») let f g = (t g; «20000 0; »$g 0$)"];
