@@ -50,8 +50,12 @@ fn too_large_functions(rt: HostRuntime) -> Result<(), Fail> {
 }
 
 #[test]
-fn limits_and_rules(rt: HostRuntime) -> Result<(), Fail> {
-    check_refused(&rt, rt.alloc(), LIMIT, &BEFORE_RULES)?;
+fn limits_before_rules(rt: HostRuntime) -> Result<(), Fail> {
+    check_refused(&rt, rt.alloc(), LIMIT, &BEFORE_RULES)
+}
+
+#[test]
+fn rules_before_limits(rt: HostRuntime) -> Result<(), Fail> {
     check_refused(&rt, rt.alloc(), "40", &CLASHES)?;
     check_refused(&rt, rt.alloc(), "41", &CYCLES)?;
     check_refused(&rt, rt.alloc(), "42", &COMPARISONS)
