@@ -1,5 +1,5 @@
 -- Copies of types keep the slots of their arrows.
-use Rattle.std.proofs.Common.{◌≡◌, ℕ, ◌⊎◌, true, false, cond, nat_eq, List, [], ◌∷◌, length, map, Some, None, Bor, refl, sym, ap, ◌∙◌, subst, inl, inr}
+use Rattle.std.proofs.Common.{◌≡◌, ℕ, ◌⊎◌, true, false, cond, nat_eq, List, [], ◌∷◌, map, Some, None, Bor, refl, sym, ap, ◌∙◌, subst, inl, inr}
 use Rattle.std.specs.List.{slice_get}
 use Rattle.std.proofs.lemmas.Bool.Decides.{eqb_tells}
 use Rattle.ml_types.specs.declared.node.TyId.{TyId}
@@ -7,11 +7,11 @@ use Rattle.ml_types.specs.declared.node.TyNode.{TyNode}
 use Rattle.ml_types.specs.declared.node.TyNode.TheVariants.{Var, Tuple}
 use Rattle.ml_types.specs.Types.{TupleHead, head_of, parts_of}
 use Rattle.ml_typing.specs.declared.equation.Unknown.TheVariants.{Fresh}
-use Rattle.hm_unify.specs.Solutions.{node_at, here}
+use Rattle.hm_unify.specs.Solutions.{here}
 use Rattle.hm_unify.specs.States.{IsHead}
 use Rattle.hm_terms.specs.Stores.{Store, state, AddsNode, Knows, IsReady, Grows}
 use Rattle.hm_terms.specs.Copies.{Table, slot_of, AreCopies, Rebuilt}
-use Rattle.hm_terms.specs.Slots.{Places, at_fresh_of, at_arguments, places, IsPut, IsCopy, of_variable, of_node, AreCopiesOf, no_copy, copy_and, MakesCopy, MakesPut, KeepSlots, StepKeeps}
+use Rattle.hm_terms.specs.Slots.{Places, at_fresh_of, at_arguments, places, IsPut, IsCopy, of_variable, of_node, AreCopiesOf, no_copy, copy_and, MakesPut, KeepSlots, StepKeeps}
 use Rattle.hm_terms.specs.declared.instances.Put.{Put}
 use Rattle.hm_terms.specs.declared.instances.Put.TheVariants as p
 use Rattle.hm_terms.proofs.Growth.{longer, ends_grow, ends_within, node_old, grows_same, grows_then}
@@ -99,8 +99,8 @@ step_node old new q copies later id x b update r = by b.made
     by : ((new ≡ old) × (x ≡ id) × (parts_of b.node ≡ b.others)) ⊎ ((m : TyNode) × (head_of m ≡ Some b.head) × (parts_of m ≡ b.others) × AddsNode old new m x × (slot_of m ≡ slot_of b.node)) → StepKeeps old new q copies later
     by (inl same) =
         let own : KeepSlots old q copies → IsCopy old q id id = λ keep.
-            of_node id b.is_head.0 id b.is_head.0 b.node b.node b.head b.is_head.1 b.is_head.2 b.has_head b.is_head.1 b.is_head.2 b.has_head refl
-            (subst (λ (ps : List TyId). AreCopiesOf old q (parts_of b.node) ps) (sym same.2) (parts keep)) in
+        of_node id b.is_head.0 id b.is_head.0 b.node b.node b.head b.is_head.1 b.is_head.2 b.has_head b.is_head.1 b.is_head.2 b.has_head refl
+        (subst (λ (ps : List TyId). AreCopiesOf old q (parts_of b.node) ps) (sym same.2) (parts keep)) in
         let at_x : KeepSlots old q copies → IsCopy old q id x = λ keep. subst (λ (z : TyId). IsCopy old q id z) (sym same.1) (own keep) in
         subst (λ (s : Store). StepKeeps old s q copies later) (sym same.0)
         (record { grows = grows_same old; keeps = λ keep. keep_more old old q copies later id x r (grows_same old) update keep (at_x keep) })
@@ -109,11 +109,11 @@ step_node old new q copies later id x b update r = by b.made
         let l = longer old new g in
         let at = added_at old new made.0 x made.3 in
         let one : KeepSlots old q copies → IsCopy new q id x = λ keep.
-            of_node id b.is_head.0 x x b.node made.0 b.head
-            (ends_grow old new l r.closed id b.is_head.0 (ends_within old id b.is_head.0 b.node b.is_head.1 b.is_head.2) b.is_head.1)
-            (node_old old new l b.is_head.0 b.node b.is_head.2) b.has_head
-            (here x (headed_free new x made.0 b.head at made.1)) at made.1 made.4
-            (copies_grow old new r g q (parts_of b.node) (parts_of made.0) (subst (λ (ps : List TyId). AreCopiesOf old q (parts_of b.node) ps) (sym made.2) (parts keep))) in
+        of_node id b.is_head.0 x x b.node made.0 b.head
+        (ends_grow old new l r.closed id b.is_head.0 (ends_within old id b.is_head.0 b.node b.is_head.1 b.is_head.2) b.is_head.1)
+        (node_old old new l b.is_head.0 b.node b.is_head.2) b.has_head
+        (here x (headed_free new x made.0 b.head at made.1)) at made.1 made.4
+        (copies_grow old new r g q (parts_of b.node) (parts_of made.0) (subst (λ (ps : List TyId). AreCopiesOf old q (parts_of b.node) ps) (sym made.2) (parts keep))) in
         record { grows = g; keeps = λ keep. keep_more old new q copies later id x r g update keep (one keep) }
 
 pub step_same : (s : Store) (q : Places) (copies : Table) → StepKeeps s s q copies copies

@@ -1,5 +1,6 @@
 -- What one step more of a loop, or one call more, makes of a term.
 use Rattle.std.proofs.Common.{◌≡◌, ℕ, zero, suc, ◌+◌, ◌-◌, ◌<◌, ◌≤◌, ◌⊎◌, List, [], ◌∷◌, ◌++◌, length, take, drop, Option, Some, None, get_or, refl, sym, ap, ◌∙◌, subst, inl, inr, arith, add-one, length-append}
+use Rattle.std.specs.Prelude.{Result, Ok, Err, OnOk, IfOk}
 use Rattle.std.specs.List.{slice_get}
 use Rattle.std.proofs.lemmas.List.{drop_all}
 use Rattle.std.proofs.lemmas.Option.{slice_get_read}
@@ -22,7 +23,7 @@ use Rattle.hm_terms.specs.Spelling.{IsAtFresh, IsTop, AreFresh, IsMade, AreAtFre
 use Rattle.hm_terms.proofs.Growth.{grows_same, grows_then}
 use Rattle.hm_terms.proofs.Holding.{grows_node, grows_unknown, added_at}
 use Rattle.hm_terms.proofs.Walking.{take_suc, mapped, ty_at}
-use Rattle.hm_terms.proofs.Spelling.{at_fresh_grows, fresh_grow, all_fresh_grow, arrows_grow, spells_grow, spell_all_grow, spell_push}
+use Rattle.hm_terms.proofs.Spelling.{fresh_grow, all_fresh_grow, arrows_grow, spells_grow, spell_all_grow, spell_push}
 
 -- an unknown, known or new
 pub unknown_there : (old new : Store) (u : Unknown) (x : TyId) → Knows old new u x → Grows old new × (new.ids u ≡ Some x)
@@ -64,10 +65,11 @@ field_next first old new args n node ty x xs ys r at k makes grown =
     let ready = k.0.ready r in
     let one = makes ready in
     let here : IsAtFresh new node (new.declared found.0.ty.0) x = subst (λ (z : TyId). IsAtFresh new node (new.declared z.0) x) (sym found.2) one.1 in
-    let all = all_fresh_push new node (take n args) xs found.0 x (all_fresh_grow old new ready one.0 node (take n args) xs k.1) here in
-    (grows_then first old new k.0 one.0,
-    subst (λ (zs : List TyId). AreAtFresh new node (take (n + 1) args) zs) (sym grown)
-    (subst (λ (bs : List ArgInfo). AreAtFresh new node bs (xs ++ x ∷ [])) (sym (take_more args n found.0 found.1)) all))
+    let all = all_fresh_push new node (take n args) xs found.0 x (all_fresh_grow old new ready one.0 node (take n args) xs k.1) here in (
+      grows_then first old new k.0 one.0,
+      subst (λ (zs : List TyId). AreAtFresh new node (take (n + 1) args) zs) (sym grown)
+          (subst (λ (bs : List ArgInfo). AreAtFresh new node bs (xs ++ x ∷ [])) (sym (take_more args n found.0 found.1)) all),
+    )
 
 pub whole_makes : (old mid new : Store) (node : ℕ) (args : List ArgInfo) (xs : List TyId) (x : TyId) → IsReady old → Grows old mid × AreAtFresh mid node args xs → Grows mid new × IsProduct new xs x → Grows old new × IsWhole new node args x
 whole_makes old mid new node args xs x r k p =
@@ -110,10 +112,11 @@ arrows_next a b c k m n ps last to from x done h lt at adds next = by (length ps
     by i e p =
         let one = node_there b c (Arrow m from to) ArrowHead x adds refl in
         let rest : Arrows b k (drop (suc i) ps) last m to = subst (λ (j : ℕ). Arrows b k (drop j ps) last m to) e h.1 in
-        let whole : Arrows c k (from ∷ drop (suc i) ps) last (m + 1) x = arrow_from k m from (drop (suc i) ps) last to x (arrows_grow b c one.0 k (drop (suc i) ps) last m to rest) one.1 in
-        (grows_then a b c h.0 one.0,
-        subst (λ (j : ℕ). Arrows c k (drop i ps) last j x) (sym next)
-        (subst (λ (zs : List TyId). Arrows c k zs last (m + 1) x) (sym (dropped ps i p)) whole))
+        let whole : Arrows c k (from ∷ drop (suc i) ps) last (m + 1) x = arrow_from k m from (drop (suc i) ps) last to x (arrows_grow b c one.0 k (drop (suc i) ps) last m to rest) one.1 in (
+          grows_then a b c h.0 one.0,
+          subst (λ (j : ℕ). Arrows c k (drop i ps) last j x) (sym next)
+              (subst (λ (zs : List TyId). Arrows c k zs last (m + 1) x) (sym (dropped ps i p)) whole),
+        )
 
 pub arrows_first : (s : Store) (k : ℕ) (ps : List TyId) (last : TyId) → Grows s s × Arrows s k (drop (length ps - 0) ps) last k last
 arrows_first s k ps last =
@@ -134,10 +137,11 @@ pub spell_next : (first old new : Store) (decls : List DeclInfo) (k m n : ℕ) (
 spell_next first old new decls k m n ts i t x xs ys lt is r h makes grown =
     let ready = h.0.ready r in
     let one = makes ready in
-    let all = spell_push new decls k (take i ts) m xs n t x (spell_all_grow old new ready one.0 decls k (take i ts) m xs h.1) one.1 in
-    (grows_then first old new h.0 one.0,
-    subst (λ (zs : List TyId). SpellAll new decls k (take (i + 1) ts) n zs) (sym grown)
-    (subst (λ (us : List Term). SpellAll new decls k us n (xs ++ x ∷ [])) (sym (take_more ts i t (slice_get_read ts (length ts) i t refl lt is))) all))
+    let all = spell_push new decls k (take i ts) m xs n t x (spell_all_grow old new ready one.0 decls k (take i ts) m xs h.1) one.1 in (
+      grows_then first old new h.0 one.0,
+      subst (λ (zs : List TyId). SpellAll new decls k (take (i + 1) ts) n zs) (sym grown)
+          (subst (λ (us : List Term). SpellAll new decls k us n (xs ++ x ∷ [])) (sym (take_more ts i t (slice_get_read ts (length ts) i t refl lt is))) all),
+    )
 
 -- a form of term that makes no arrow
 pub no_slot : (s : Store) (decls : List DeclInfo) (k m : ℕ) (t : Term) (x : TyId) → m ≡ k → Spells s decls k t k x → Spells s decls k t m x
@@ -172,3 +176,27 @@ function_spells old mid last new decls k l m n t result inner params slice xs ys
     let to_result = subst (λ (u : Term). Spells new decls l u m to) within (spells_grow last new end_ready arrows.0 decls l inner m to one.1) in
     let from_params = subst (λ (zs : List TyId). Arrows new m zs to n x) list arrows.1 in
     (grows_then old mid new all.0 later, is_function k l m n t x params result xs to e terms to_result from_params)
+
+-- a product of other than one type
+pub product_makes : (old new : Store) (xs : List TyId) (x : TyId) → (length xs ≡ 1 → ⊥) → AddsNode old new (Tuple xs) x → Grows old new × IsProduct new xs x
+product_makes old new xs x several a =
+    let one = node_there old new (Tuple xs) (TupleHead (length xs)) x a refl in
+    (one.0, inr (several, one.1))
+
+pub plain_makes : (old new : Store) (d : ℕ) (o : Option TyId) (xs : List TyId) (x : TyId) → o ≡ None → AddsNode old new (Con d xs) x → Grows old new × IsNamed new d o xs x
+plain_makes old new d o xs x e a =
+    subst (λ (z : Option TyId). Grows old new × IsNamed new d z xs x) (sym e) (node_there old new (Con d xs) (ConHead d (length xs)) x a refl)
+
+pub expanded_makes : (old new : Store) (d : ℕ) (o : Option TyId) (body y : TyId) (xs slice : List TyId) (x : TyId) → o ≡ Some body → old.declared body.0 ≡ Some y → slice ≡ xs → MakesCopy old new (at_arguments slice) y x → Grows old new × IsNamed new d o xs x
+expanded_makes old new d o body y xs slice x e is same m =
+    let copy = subst (λ (zs : List TyId). IsCopy new (at_arguments zs) y x) same m.copy in
+    subst (λ (z : Option TyId). Grows old new × IsNamed new d z xs x) (sym e) (m.grows, (y, m.grows.names.declared body.0 ∙ is, copy))
+
+-- no fresh type yet
+pub fresh_first : (s : Store) (node : ℕ) (xs : List TyId) → xs ≡ [] → Grows s s × AreFresh s node 0 xs
+fresh_first s node xs e = (grows_same s, subst (λ (zs : List TyId). AreFresh s node 0 zs) (sym e) (record { count_is = refl; fresh = λ i x p. absurd (let q : None ≡ Some x = p in cc) }))
+
+-- what follows from two facts about a value
+pub ok_then : {A E : Type 0} (r : Result A E) (S : Type 0) (P Q : A → Type 0) → ((x : A) → S → P x → Q x) → OnOk r S → IfOk r P → IfOk r Q
+ok_then (Ok x) S P Q f s p = f x s p
+ok_then (Err e) S P Q f s p = p

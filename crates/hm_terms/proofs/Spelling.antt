@@ -1,5 +1,5 @@
 -- Types that terms make, with the slots of their arrows, stay so while the solver grows.
-use Rattle.std.proofs.Common.{◌≡◌, ℕ, zero, suc, ◌+◌, ◌-◌, ◌<◌, ◌≤◌, List, [], ◌∷◌, ◌++◌, length, take, drop, Option, Some, None, get_or, refl, sym, ap, ◌∙◌, subst, inl, inr, arith, add-one, length-append}
+use Rattle.std.proofs.Common.{◌≡◌, ℕ, List, [], ◌∷◌, ◌++◌, Option, Some, None, ap, ◌∙◌, inl, inr}
 use Rattle.std.specs.List.{slice_get}
 use Rattle.ml_types.specs.declared.node.TyId.{TyId}
 use Rattle.ml_types.specs.declared.node.TyNode.TheVariants.{Con, Tuple, Arrow}
@@ -9,11 +9,10 @@ use Rattle.ml_types.specs.declared.declared.FieldInfo.{FieldInfo}
 use Rattle.ml_types.specs.declared.declared.DeclInfo.{DeclInfo}
 use Rattle.ml_typing.specs.declared.equation.Unknown.TheVariants.{Binder, Fresh}
 use Rattle.ml_typing.specs.declared.equation.Term.{Term}
-use Rattle.hm_unify.specs.Solutions.{node_at}
 use Rattle.hm_terms.specs.Stores.{Store, IsReady, Grows}
 use Rattle.hm_terms.specs.Contexts.{op_place}
-use Rattle.hm_terms.specs.Slots.{at_fresh_of, at_arguments, IsNothing, IsCopy}
-use Rattle.hm_terms.specs.Spelling.{IsAtFresh, IsTop, IsOperation, AreFresh, IsMade, AreAtFresh, IsProduct, IsWhole, IsArgument, IsField, IsExpanded, IsNamed, Arrows, no_arrow, arrow_from, Spells, is_unknown, is_top, is_operation, is_made, is_argument, is_field, is_named, is_tuple, is_function, SpellAll, no_term, term_and}
+use Rattle.hm_terms.specs.Slots.{at_fresh_of, at_arguments}
+use Rattle.hm_terms.specs.Spelling.{IsAtFresh, IsTop, AreFresh, IsMade, AreAtFresh, IsProduct, IsWhole, IsArgument, IsField, IsNamed, Arrows, no_arrow, arrow_from, Spells, is_unknown, is_top, is_operation, is_made, is_argument, is_field, is_named, is_tuple, is_function, SpellAll, no_term, term_and}
 use Rattle.hm_terms.proofs.Growth.{longer, node_old}
 use Rattle.hm_terms.proofs.Slots.{copy_grows}
 
