@@ -195,13 +195,11 @@ schemes_behind old middle closed new binders c a s named others same k b = by (b
         subst (λ (o : Option TyId). ShowsAny new o (cond (is_among binders b) (Some (a (Binder b))) (c.scheme b))) (sym (same b ∙ others b h))
         (subst (λ (v : Bool). ShowsAny new (old.schemes b) (cond v (Some (a (Binder b))) (c.scheme b))) (sym h) (any_kept old new s.keeps (old.schemes b) (c.scheme b) (k b)))
 
-read_behind : (old middle closed new : Store) (decls : List DeclInfo) (binders : List ℕ) (c : Context) (a : Assignment) → IsRead old decls c → IsLeft middle new → Shifts old middle new a → new.operations ≡ old.operations → ((b : ℕ) → is_among binders b ≡ true → (x : TyId) × (middle.ids (Binder b) ≡ Some x) × (closed.schemes b ≡ Some x)) → ((b : ℕ) → is_among binders b ≡ false → closed.schemes b ≡ old.schemes b) → ((b : ℕ) → new.schemes b ≡ closed.schemes b) → IsRead new decls (behind c a binders)
-read_behind old middle closed new decls binders c a k l s operations named others same = record {
+read_behind : (old middle closed new : Store) (decls : List DeclInfo) (binders : List ℕ) (c : Context) (a : Assignment) → IsRead old decls c → IsLeft middle new → Shifts old middle new a → new.operations ≡ old.operations → ((n : ℕ) → new.declared n ≡ old.declared n) → ((b : ℕ) → is_among binders b ≡ true → (x : TyId) × (middle.ids (Binder b) ≡ Some x) × (closed.schemes b ≡ Some x)) → ((b : ℕ) → is_among binders b ≡ false → closed.schemes b ≡ old.schemes b) → ((b : ℕ) → new.schemes b ≡ closed.schemes b) → IsRead new decls (behind c a binders)
+read_behind old middle closed new decls binders c a k l s operations declared named others same = record {
   ready = ready_left middle new l;
   decls_are = k.decls_are;
-  abbreviations = λ i q x p e. s.keeps x (c.declared x) (k.abbreviations i q x p e);
-  arguments = λ i j m q z b e g h. s.keeps b.ty (c.declared b.ty) (k.arguments i j m q z b e g h);
-  fields = λ i j q z p e. s.keeps z.arg.ty (c.declared z.arg.ty) (k.fields i j q z p e);
+  declared = λ x y p. s.keeps y (c.declared x) (k.declared x y (sym (declared x.0) ∙ p));
   schemes = schemes_behind old middle closed new binders c a s named others same k.schemes;
   operations = λ op x p. s.keeps x (c.operation op) (k.operations op x (ap (λ (xs : List TyId). slice_get xs (op_place op)) (sym operations) ∙ p));
   closed_links = λ x y h p. (let n = link-number new.nodes new.bound x y p in let w = (closed_left middle new l).targets_in n.0 y n.2 in omega (arith, w, l.mark));
@@ -239,7 +237,7 @@ left mid new decls c item found more sound sound' checked l = record {
   principal = principal mid (pairs c item.steps) a ready sound checked.knows.agrees shows;
   small = checked.small a shows;
   keeps = shifts.keeps;
-  read = read_behind mid middle l.closed new decls item.binders c a checked.knows.read is_left shifts (l.forgets.operations ∙ closes.operations ∙ closes.grows.names.operations) closes.named closes.others l.forgets.schemes;
+  read = read_behind mid middle l.closed new decls item.binders c a checked.knows.read is_left shifts (l.forgets.operations ∙ closes.operations ∙ closes.grows.names.operations) (λ n. l.forgets.declared n ∙ closes.declared n ∙ closes.grows.names.declared n) closes.named closes.others l.forgets.schemes;
   noted = nodes_left mid middle new item.steps a (get nat_eq found.nodes) (get nat_eq more.nodes) shifts closes.grows.ids l.noted;
 }
   where

@@ -91,6 +91,7 @@ pub record Closing (old new : Store) (binders : List ℕ) : Type 0 where
   pub bound : new.bound ≡ middle.bound
   pub ids : (u : Unknown) → new.ids u ≡ middle.ids u
   pub operations : new.operations ≡ middle.operations
+  pub declared : (n : ℕ) → new.declared n ≡ middle.declared n
   pub mark : new.mark ≡ middle.mark
   pub named : (b : ℕ) → is_among binders b ≡ true → (x : TyId) × (middle.ids (Binder b) ≡ Some x) × (new.schemes b ≡ Some x)
   pub others : (b : ℕ) → is_among binders b ≡ false → new.schemes b ≡ old.schemes b
@@ -107,6 +108,7 @@ closing_start s bs = record {
   bound = refl;
   ids = λ u. refl;
   operations = refl;
+  declared = λ n. refl;
   mark = refl;
   named = λ b h. absurd (let q : false ≡ true = sym (none_among bs b) ∙ h in cc);
   others = λ b h. refl;
@@ -120,6 +122,7 @@ record Grown (old from new : Store) (v : Unknown) (id : TyId) : Type 0 where
   bound : new.bound ≡ to.bound
   ids : (u : Unknown) → new.ids u ≡ to.ids u
   operations : new.operations ≡ to.operations
+  declared : (n : ℕ) → new.declared n ≡ to.declared n
   mark : new.mark ≡ to.mark
   there : to.ids v ≡ Some id
   schemes : (b : ℕ) → new.schemes b ≡ old.schemes b
@@ -129,38 +132,40 @@ same_adds old from new id nodes bound a =
     subst (λ (ns : List TyNode). AddsFresh (record { nodes = ns; bound = from.bound }) (state new) id) nodes
     (subst (λ (m : Bound). AddsFresh (record { nodes = old.nodes; bound = m }) (state new) id) bound a)
 
-grown : (old from new : Store) (v : Unknown) (id : TyId) → old.nodes ≡ from.nodes → old.bound ≡ from.bound → ((u : Unknown) → old.ids u ≡ from.ids u) → old.operations ≡ from.operations → old.mark ≡ from.mark → Knows old new v id → Grown old from new v id
-grown old from new v id nodes bound ids operations mark (inl k) = record {
+grown : (old from new : Store) (v : Unknown) (id : TyId) → old.nodes ≡ from.nodes → old.bound ≡ from.bound → ((u : Unknown) → old.ids u ≡ from.ids u) → old.operations ≡ from.operations → ((n : ℕ) → old.declared n ≡ from.declared n) → old.mark ≡ from.mark → Knows old new v id → Grown old from new v id
+grown old from new v id nodes bound ids operations declared mark (inl k) = record {
   to = from;
   grows = grows_same from;
   nodes = ap (λ (s : Store). s.nodes) k.1 ∙ nodes;
   bound = ap (λ (s : Store). s.bound) k.1 ∙ bound;
   ids = λ u. ap (λ (s : Store). s.ids u) k.1 ∙ ids u;
   operations = ap (λ (s : Store). s.operations) k.1 ∙ operations;
+  declared = λ n. ap (λ (s : Store). s.declared n) k.1 ∙ declared n;
   mark = ap (λ (s : Store). s.mark) k.1 ∙ mark;
   there = sym (ids v) ∙ k.0;
   schemes = λ b. ap (λ (s : Store). s.schemes b) k.1;
 }
-grown old from new v id nodes bound ids operations mark (inr a) = record {
+grown old from new v id nodes bound ids operations declared mark (inr a) = record {
   to = to;
   grows = grows_unknown from to v id (record {
     none = sym (ids v) ∙ a.none;
     adds = same_adds old from new id nodes bound a.adds;
     there = a.there;
     others = λ u d. a.others u d ∙ ids u;
-    names = record { schemes = λ b. refl; operations = refl; mark = refl };
+    names = record { schemes = λ b. refl; operations = refl; declared = λ n. refl; mark = refl };
   });
   nodes = refl;
   bound = refl;
   ids = λ u. refl;
   operations = a.names.operations ∙ operations;
+  declared = λ n. a.names.declared n ∙ declared n;
   mark = a.names.mark ∙ mark;
   there = a.there;
   schemes = a.names.schemes;
 }
   where
     to : Store
-    to = record { nodes = new.nodes; bound = new.bound; ids = new.ids; schemes = from.schemes; operations = from.operations; mark = from.mark }
+    to = record { nodes = new.nodes; bound = new.bound; ids = new.ids; schemes = from.schemes; operations = from.operations; declared = from.declared; mark = from.mark }
 
 pub closing_next : (old now known new : Store) (bs : List ℕ) (n m : ℕ) (id : TyId) → slice_get bs n ≡ Some m → Closing old now (take n bs) → Knows now known (Binder m) id → Generalises known new m id → Closing old new (take (n + 1) bs)
 closing_next old now known new bs n m id at k knows g = rw add-one (record {
@@ -170,13 +175,14 @@ closing_next old now known new bs n m id at k knows g = rw add-one (record {
   bound = g.bound ∙ w.bound;
   ids = λ u. g.ids u ∙ w.ids u;
   operations = g.operations ∙ w.operations;
+  declared = λ n. g.declared n ∙ w.declared n;
   mark = g.mark ∙ w.mark;
   named = λ b h. named b (among_more bs n m b at h) (eqb_tells m b);
   others = λ b h. others b (among_none bs n m b at h) (eqb_tells m b);
 })
   where
     w : Grown now k.middle known (Binder m) id
-    w = grown now k.middle known (Binder m) id k.nodes k.bound k.ids k.operations k.mark knows
+    w = grown now k.middle known (Binder m) id k.nodes k.bound k.ids k.operations k.declared k.mark knows
 
     named : (b : ℕ) → (nat_eq m b ≡ true) ⊎ (is_among (take n bs) b ≡ true) → ((nat_eq m b ≡ true) × (m ≡ b)) ⊎ ((nat_eq m b ≡ false) × (m ≡ b → ⊥)) → (x : TyId) × (w.to.ids (Binder b) ≡ Some x) × (new.schemes b ≡ Some x)
     named b h (inl e) = (id, ap (λ (i : ℕ). w.to.ids (Binder i)) (sym e.1) ∙ w.there, ap new.schemes (sym e.1) ∙ g.there)
@@ -197,6 +203,7 @@ closing_done old new bs n h k = by (subst (λ (cs : List ℕ). Closing old new c
       nodes = k.nodes;
       bound = k.bound;
       operations = k.operations;
+      declared = k.declared;
       named = k.named;
       others = k.others;
     }

@@ -18,6 +18,7 @@ pub record Closes (old new : Store) (binders : List ℕ) : Type 0 where
   pub nodes : new.nodes ≡ middle.nodes
   pub bound : new.bound ≡ middle.bound
   pub operations : new.operations ≡ middle.operations
+  pub declared : (n : ℕ) → new.declared n ≡ middle.declared n
   pub named : (b : ℕ) → is_among binders b ≡ true → (x : TyId) × (middle.ids (Binder b) ≡ Some x) × (new.schemes b ≡ Some x)
   pub others : (b : ℕ) → is_among binders b ≡ false → new.schemes b ≡ old.schemes b
 

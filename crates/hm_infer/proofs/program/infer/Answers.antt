@@ -12,7 +12,7 @@ use Rattle.hm_infer.proofs.program.infer.Goals as goal
 
 pub loop-number-init : goal.loop-number-init
 loop-number-init c = λ declared r.
-    first_behind (store c.in_ok-solver.solver) c.args.d.now.types (first_context c.args.d.now.types declared) _ (c.in_ok-solver.ensures.read c.args.d.now.types declared c.requires.within r) c.in_ok-solver.ensures.forgotten c.new-found.ensures.nodes c.new-found.ensures.bad
+    first_behind (store c.in_ok-solver.solver) c.args.d.now.types (first_context c.args.d.now.types declared) _ (c.in_ok-solver.ensures.read declared r) c.in_ok-solver.ensures.forgotten c.new-found.ensures.nodes c.new-found.ensures.bad
 
 pub returns-in-Err-clause-err : goal.returns-in-Err-clause-err
 returns-in-Err-clause-err c = λ declared r.
@@ -33,8 +33,8 @@ returns-in-Some-clause-err c = λ declared r.
     (compares_badly (store c.loop-number.solver) c.args.d.now.types (first_context c.args.d.now.types declared) _ c.loop-number.found c.in-Some.span c.in-Some.is
     (all_behind (store c.loop-number.solver) c.args.d.now.types (first_context c.args.d.now.types declared) (steps_of_item c.args.s.now.refs c.args.s.now.types) c.as_slice-items.result.now c.loop-number.number c.loop-number.found c.loop-number-test.false (c.loop-number.invariant declared r)))
 
-pub returns-in_ok-typed-in-None-clause-ok : goal.returns-in_ok-typed-in-None-clause-ok
-returns-in_ok-typed-in-None-clause-ok c = λ declared r.
+pub returns-clause-ok : goal.returns-clause-ok
+returns-clause-ok c = λ declared r.
     let items : c.as_slice-items.result.now ≡ c.args.s.now.program.items = c.as_slice-items.ensures ∙ ap (λ p. p.items) c.program-program.ensures in
     let behind = all_behind (store c.loop-number.solver) c.args.d.now.types (first_context c.args.d.now.types declared) (steps_of_item c.args.s.now.refs c.args.s.now.types) c.as_slice-items.result.now c.loop-number.number c.loop-number.found c.loop-number-test.false (c.loop-number.invariant declared r) in
     typed_as (store c.loop-number.solver) c.args.d.now.types (first_context c.args.d.now.types declared) (map (steps_of_item c.args.s.now.refs c.args.s.now.types) c.args.s.now.program.items) c.loop-number.found c.args.s.now.program.nodes c.in_ok-typed-in-None.field-0 c.in-None.is

@@ -7,4 +7,4 @@ use Rattle.hm_infer.specs.Answers.{SomeBehind}
 use Rattle.hm_infer.proofs.program.infer.Given as goal
 
 abbrev pub invariant-loop-number : goal.invariant-loop-number
-invariant-loop-number l = (declared : TyIdValue → Tree) → Reads l.fn.t.nodes declared → SomeBehind (store l.solver) l.d.types (first_context l.d.types declared) (map (steps_of_item l.s.refs l.s.types) (take l.number l.items)) l.found
+invariant-loop-number l = (declared : TyIdValue → Tree) → Reads l.d.types l.fn.t.nodes declared → SomeBehind (store l.solver) l.d.types (first_context l.d.types declared) (map (steps_of_item l.s.refs l.s.types) (take l.number l.items)) l.found
