@@ -1,5 +1,6 @@
 -- The steps of an item with the slots of arrows, as loops run them.
 use Rattle.std.proofs.Common.{◌≡◌, ℕ, ◌+◌, ◌<◌, ◌≤◌, List, [], ◌∷◌, ◌++◌, take, length, Some, get_or, refl, sym, ap, ◌∙◌, subst, append_assoc}
+use Rattle.std.specs.Prelude.{Result, Ok, Err, OnOk}
 use Rattle.std.specs.List.{slice_get}
 use Rattle.std.proofs.lemmas.List.{append-nil}
 use Rattle.std.proofs.lemmas.Option.{slice_get_read}
@@ -8,6 +9,7 @@ use Rattle.ml_types.specs.declared.declared.DeclInfo.{DeclInfo}
 use Rattle.ml_typing.specs.declared.equation.Unknown.{Unknown}
 use Rattle.ml_typing.specs.declared.equation.Equation.{Equation}
 use Rattle.ml_typing.specs.declared.equation.Step.{Step}
+use Rattle.ml_typing.specs.Typing.{ItemSteps}
 use Rattle.hm_unify.specs.Solutions.{Pairs}
 use Rattle.hm_unify.specs.States.{Equated}
 use Rattle.hm_unify.specs.Walks.{WalkPairs}
@@ -17,7 +19,9 @@ use Rattle.hm_terms.proofs.Growth.{grows_same, grows_then}
 use Rattle.hm_terms.proofs.Spelling.{spells_grow}
 use Rattle.hm_terms.proofs.SpellSteps.{unknown_there, take_more}
 use Rattle.hm_terms.proofs.Walking.{take_all}
-use Rattle.hm_infer.specs.Spelled.{SpellsPair, SpellsPairs, no_pair, pair_and, PushesSpelled, StepRuns, StepsRun, no_step, step_and}
+use Rattle.hm_infer.specs.Spelled.{SpellsPair, SpellsPairs, no_pair, pair_and, PushesSpelled, StepRuns, StepsRun, no_step, step_and, ItemRuns}
+use Rattle.hm_infer.specs.Closing.{Leaves}
+use Rattle.hm_infer.specs.declared.items.Found.{Found}
 
 pub pair_grows : (old new : Store) → IsReady old → Grows old new → (decls : List DeclInfo) (k : ℕ) (e : Equation) (m : ℕ) (p : TyId × TyId) → SpellsPair old decls k e m p → SpellsPair new decls k e m p
 pair_grows old new r g decls k e m p h = record { left = g.ids e.left p.0 h.left; right = spells_grow old new r g decls k e.right m p.1 h.right }
@@ -97,3 +101,25 @@ runs_next decls first old new k m n steps i step at h one =
 
 pub runs_all : (decls : List DeclInfo) (first old : Store) (k m : ℕ) (steps : List Step) (i : ℕ) → length steps ≤ i → StepsRun decls first k (take i steps) old m → StepsRun decls first k steps old m
 runs_all decls first old k m steps i h l = subst (λ (ss : List Step). StepsRun decls first k ss old m) (take_all steps i h) l
+
+-- steps that were found to hold
+pub runs_to : (decls : List DeclInfo) (first old new : Store) (k m n : ℕ) (steps : List Step) → new ≡ old → n ≡ m → StepsRun decls first k steps old m → StepsRun decls first k steps new n
+runs_to decls first old new k m n steps same slots h =
+    subst (λ (i : ℕ). StepsRun decls first k steps new i) (sym slots) (subst (λ (s : Store). StepsRun decls first k steps s m) (sym same) h)
+
+-- an item that is left
+pub item_runs : (decls : List DeclInfo) (old mid new : Store) (k m n : ℕ) (item : ItemSteps) (steps others : List Step) (binders : List ℕ) (found more : Found) → steps ≡ item.steps → binders ≡ item.binders → n ≡ m → StepsRun decls old k steps mid m → Leaves mid new others binders found more → ItemRuns decls old k item new n
+item_runs decls old mid new k m n item steps others binders found more is names slots h leaves =
+    let l = subst (λ (bs : List ℕ). Leaves mid new others bs found more) names leaves in
+    record {
+      behind_steps = mid;
+      closed = l.closed;
+      runs = subst (λ (i : ℕ). StepsRun decls old k item.steps mid i) (sym slots) (subst (λ (ss : List Step). StepsRun decls old k ss mid m) is h);
+      closes = l.closes;
+      forgets = l.forgets;
+    }
+
+-- both, where each is ensured
+pub on_ok_both : {A E : Type 0} (r : Result A E) (P Q : Type 0) → OnOk r P → OnOk r Q → OnOk r (P × Q)
+on_ok_both (Ok x) P Q p q = (p, q)
+on_ok_both (Err e) P Q p q = p

@@ -6,10 +6,12 @@ use Rattle.ml_types.specs.declared.declared.DeclInfo.{DeclInfo}
 use Rattle.ml_typing.specs.declared.equation.Unknown.{Unknown}
 use Rattle.ml_typing.specs.declared.equation.Equation.{Equation}
 use Rattle.ml_typing.specs.declared.equation.Step.{Step}
+use Rattle.ml_typing.specs.Typing.{ItemSteps}
 use Rattle.hm_unify.specs.Solutions.{Pairs}
 use Rattle.hm_unify.specs.Walks.{WalkPairs}
-use Rattle.hm_terms.specs.Stores.{Store, Grows, SameNames}
+use Rattle.hm_terms.specs.Stores.{Store, Grows, SameNames, Forgets}
 use Rattle.hm_terms.specs.Spelling.{Spells}
+use Rattle.hm_infer.specs.Closing.{Closes}
 
 -- the two sides of an equation: the arrows that its term makes have the slots from the first number up
 -- to but not including the second
@@ -44,3 +46,11 @@ pub record StepRuns (decls : List DeclInfo) (old : Store) (k : ℕ) (step : Step
 pub data StepsRun (decls : List DeclInfo) : Store → ℕ → List Step → Store → ℕ → Type 0 where
   no_step : (s : Store) (k : ℕ) → StepsRun decls s k [] s k
   step_and : (s a b : Store) (k m n : ℕ) (step : Step) (steps : List Step) → StepRuns decls s k step a m → StepsRun decls a m steps b n → StepsRun decls s k (step ∷ steps) b n
+
+-- an item whose steps hold, and that is left: its names have schemes, and its unknowns are forgotten
+pub record ItemRuns (decls : List DeclInfo) (old : Store) (k : ℕ) (item : ItemSteps) (new : Store) (m : ℕ) : Type 0 where
+  pub behind_steps : Store
+  pub closed : Store
+  pub runs : StepsRun decls old k item.steps behind_steps m
+  pub closes : Closes behind_steps closed item.binders
+  pub forgets : Forgets closed new
