@@ -27,10 +27,11 @@ use Rattle.ml_decls.specs.Offences.{Reaches, at_once, through}
 use Rattle.ml_decls.specs.Answers.{IsChecked}
 use Rattle.ml_decls.proofs.Members.{ImageAt, at_map}
 use Rattle.ml_typing.specs.Typing.{alias_of, Reads}
-use Rattle.declared_laws.proofs.Expansions.{numbers, expand, layers, layers-stable}
+use Rattle.declared_laws.specs.Expanding.{expand, layers, bodies, declared_types}
+use Rattle.declared_laws.proofs.Expansions.{numbers, layers-stable}
 use Rattle.declared_laws.proofs.Chains.{IsAcyclic, all_shallow}
 use Rattle.declared_laws.proofs.Naming.{IsMentioned, written_mentions}
-use Rattle.declared_laws.proofs.Readings.{bodies, readings}
+use Rattle.declared_laws.proofs.Readings.{readings}
 
 -- ---- what stands at a number
 
@@ -183,9 +184,8 @@ acyclic text s decls table checked = record { below = below; at_once = edge; joi
         let itself : Reaches s.types s.program.items (c.place + 7) (c.place + 7) = subst (λ z. Reaches s.types s.program.items z z) c.number r in
         checked.sound (record { rule = CyclicAbbreviation; span = c.declaration.name }) (record { place = c.place; declaration = c.declaration; declared = c.stands; at_name = refl; itself = itself })
 
-pub reads_exist : (text : List ℕ) (s : Scoped) (decls : Decls) (table : TyTable) → IsChecked text s decls table → (declared : TyId → Tree) × Reads decls.types table.nodes declared
-reads_exist text s decls table checked =
-    ((λ x. expand full (tree_in (trees_of table.nodes) x)), readings decls.types table.nodes checked.declares.before full stable)
+pub reads_declared : (text : List ℕ) (s : Scoped) (decls : Decls) (table : TyTable) → IsChecked text s decls table → Reads decls.types table.nodes (declared_types decls.types table.nodes)
+reads_declared text s decls table checked = readings decls.types table.nodes checked.declares.before full stable
   where
     written_bodies : ℕ → Option Tree
     written_bodies = bodies decls.types table.nodes

@@ -4,7 +4,7 @@ use Rattle.std.specs.Prelude.{option_map}
 use Rattle.ml_types.specs.Types.{Head, ConHead, TupleHead, ArrowHead, Tree, Leaf, Node, Trees, Nil, Cons}
 use Rattle.ml_decls.specs.Lists.{IsIn}
 use Rattle.ml_decls.proofs.Members.{in_left, in_right}
-use Rattle.ml_typing.specs.Typing.{at_types, tree_at}
+use Rattle.declared_laws.specs.Expanding.{body_at, applied, expand, expand_all, layers}
 
 -- ---- the declarations that a tree names
 
@@ -22,30 +22,7 @@ abbrev mutual
   all_numbers Nil = []
   all_numbers (Cons t ts) = numbers t ++ all_numbers ts
 
--- ---- expanding, where the type of each abbreviation is given
-
-abbrev pub items_of : Trees → List Tree
-items_of Nil = []
-items_of (Cons t ts) = t ∷ items_of ts
-
-abbrev pub body_at : (ℕ → Option Tree) → Head → Option Tree
-body_at bodies (ConHead d n) = bodies d
-body_at bodies (TupleHead n) = None
-body_at bodies ArrowHead = None
-
--- a node, or the type that its name stands for at these parts
-abbrev pub applied : Head → Trees → Option Tree → Tree
-applied h ts None = Node h ts
-applied h ts (Some body) = at_types (tree_at (items_of ts)) body
-
-abbrev mutual
-  pub expand : (ℕ → Option Tree) → Tree → Tree
-  expand bodies (Leaf v) = Leaf v
-  expand bodies (Node h ts) = applied h (expand_all bodies ts) (body_at bodies h)
-
-  pub expand_all : (ℕ → Option Tree) → Trees → Trees
-  expand_all bodies Nil = Nil
-  expand_all bodies (Cons t ts) = Cons (expand bodies t) (expand_all bodies ts)
+-- ---- expanding
 
 body_at-agrees : (f g : ℕ → Option Tree) (h : Head) → ((d : ℕ) → IsIn d (head_numbers h) → f d ≡ g d) → body_at f h ≡ body_at g h
 body_at-agrees f g (ConHead d n) same = same d (inl refl)
@@ -91,11 +68,6 @@ is_no_tree None = true
 is_no_tree (Some t) = false
 
 module _ (bodies : ℕ → Option Tree) where
-  -- the types of abbreviations, expanded through so many layers
-  abbrev pub layers : ℕ → ℕ → Option Tree
-  layers zero = bodies
-  layers (suc k) = λ d. option_map (expand (layers k)) (bodies d)
-
   -- whether no chain of more than so many abbreviations begins at a number
   abbrev pub is_shallow : ℕ → ℕ → Bool
   is_shallow zero = λ d. is_no_tree (bodies d)

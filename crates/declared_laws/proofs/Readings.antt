@@ -8,12 +8,8 @@ use Rattle.ml_types.specs.declared.declared.DeclInfo.{DeclInfo}
 use Rattle.ml_types.specs.Types.{Head, ConHead, TupleHead, ArrowHead, head_of, parts_of, Tree, Leaf, Node, Cons, trees}
 use Rattle.ml_decls.specs.Tables.{tree_in, trees_of, PartsBefore}
 use Rattle.ml_typing.specs.Typing.{at_types, tree_at, alias_of, abbreviated, Reads}
-use Rattle.declared_laws.proofs.Expansions.{items_of, body_at, applied, expand, expand_all}
+use Rattle.declared_laws.specs.Expanding.{items_of, body_at, applied, expand, expand_all, bodies}
 use Rattle.declared_laws.proofs.Tables.{node_tree, headed_tree}
-
--- the types that abbreviations are declared as, in which the names of abbreviations stand as they are
-abbrev pub bodies : List DeclInfo → List TyNode → ℕ → Option Tree
-bodies decls nodes d = option_map (tree_in (trees_of nodes)) (alias_of (slice_get decls d))
 
 parts_expand : (full : ℕ → Option Tree) (t : TyId → Tree) (xs : List TyId) → expand_all full (trees t xs) ≡ trees (λ x. expand full (t x)) xs
 parts_expand full t [] = refl
