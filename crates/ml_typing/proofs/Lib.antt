@@ -2,6 +2,6 @@ mod Typings
 mod Faults
 mod Renamed
 mod Alike
-mod Programs
-mod Comparisons
+pub mod Programs
+pub mod Comparisons
 mod Unique

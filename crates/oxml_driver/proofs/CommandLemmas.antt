@@ -1,11 +1,12 @@
 -- How the parts of the command make its answers.
-use Rattle.std.proofs.Common.{◌≡◌, ℕ, ◌≤◌, ◌⊎◌, inl, inr, true, List, [], length, Some, refl, sym, ◌∙◌, append-nil, subst}
+use Rattle.std.proofs.Common.{◌≡◌, ℕ, ◌≤◌, ◌⊎◌, inl, inr, true, List, [], length, Option, Some, refl, sym, ◌∙◌, append-nil, subst}
 use Rattle.oxml_base.specs.declared.outside.ShelfCall.{ShelfCall}
 use Rattle.oxml_base.specs.declared.outside.ShelfCall.TheVariants.{Load, Save}
 use Rattle.oxml_base.specs.declared.refusal.Refusal.{Refusal}
-use Rattle.oxml_base.specs.Outside.{ShelfView, SinkView, Rose, SameHeld, SameBut, SameFaults, ShelfFails, HoldsMore, GainsPart}
+use Rattle.oxml_base.specs.declared.span.Span.{Span}
+use Rattle.oxml_base.specs.Outside.{ShelfView, SinkView, Rose, Saves, SameHeld, SameBut, SameFaults, ShelfFails, HoldsMore, GainsPart}
 use Rattle.oxml_base.specs.declared.refusal.Limit.{Limit}
-use Rattle.oxml_driver.specs.Build.{IsRefused, Passes, most_bytes}
+use Rattle.oxml_driver.specs.Build.{Compiles, IsRefused, Passes, default_sizes, most_bytes}
 use Rattle.oxml_driver.specs.Command.{World, HasSource, IsWrong, IsTooLong, IsOver, of_bytes, of_source, IsBuilt, Says, IsReadFault, IsLine, GainsParts, IsWriteFault, Answers, built, refused, usage, read_fault, write_fault, limit, no_memory}
 use Rattle.oxml_driver.specs.Lines.{bytes_limit_line, limit_line, read_fault_line, refusal_line, write_fault_line}
 use Rattle.oxml_driver.specs.Said.{Said, said, unsaid, not_made, SaidUnread, tried, not_tried, AnswersBuild}
@@ -84,6 +85,23 @@ module _ (file out_name : List ℕ) (shelf shelf' : ShelfView) (err err' : SinkV
         err = record { between = err; one = gains_nothing err; two = gains };
       })
 
+-- the image was saved
+pub answers_built : (file out_name : List ℕ) (shelf shelf' : ShelfView) (err : SinkView) (source bytes saved : List ℕ) → (shelf.tells ≡ true → shelf.held file ≡ Some source) → Compiles source default_sizes bytes → saved ≡ bytes → Saves shelf shelf' out_name saved → SameBut shelf shelf' out_name → AnswersBuild file out_name shelf shelf' err err 0
+answers_built file out_name shelf shelf' err source bytes saved told compiles is saves others = λ words out words_are.
+    built refl (record {
+      file = file;
+      out_name = out_name;
+      source = source;
+      has_source = record { words_are = words_are; told = told };
+      bytes = bytes;
+      compiles = compiles;
+      saved = subst (λ b. shelf.tells ≡ true → shelf'.held out_name ≡ Some b) is saves.told;
+      others = others;
+      calm = saves.calm;
+      out = refl;
+      err = refl;
+    })
+
 module _ (file out_name : List ℕ) (shelf : ShelfView) (err err' : SinkView) (status : ℕ) (source : List ℕ) (told : shelf.tells ≡ true → shelf.held file ≡ Some source) where
   -- the source violates a rule
   pub answers_refused : (refusal : Refusal) → IsRefused source refusal → Said 1 status err err' (refusal_line file source refusal) → AnswersBuild file out_name shelf shelf err err' status
@@ -102,9 +120,9 @@ module _ (file out_name : List ℕ) (shelf : ShelfView) (err err' : SinkView) (s
       no_memory is_6 (record { held = same_held shelf; out = refl; err = gains })
 
   -- the source, which is short, passes a limit
-  pub answers_passed : {passed : Limit} → length source ≤ most_bytes → Passes source passed → Said 5 status err err' (limit_line file passed) → AnswersBuild file out_name shelf shelf err err' status
-  answers_passed {passed} short passes =
-      answers_over file out_name shelf shelf err err' status (limit_line file passed) (λ words out words_are. of_source (record { has_source = record { words_are = words_are; told = told }; short = short; passes = passes })) (same_faults shelf) (same_held shelf)
+  pub answers_passed : {passed : Limit} {place : Option Span} → length source ≤ most_bytes → Passes source passed place → Said 5 status err err' (limit_line file source passed place) → AnswersBuild file out_name shelf shelf err err' status
+  answers_passed {passed} {place} short passes =
+      answers_over file out_name shelf shelf err err' status (limit_line file source passed place) (λ words out words_are. of_source (record { has_source = record { words_are = words_are; told = told }; short = short; passes = passes })) (same_faults shelf) (same_held shelf)
 
 -- ---- a load that succeeded changes nothing that is seen
 

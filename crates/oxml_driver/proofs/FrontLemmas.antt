@@ -17,11 +17,12 @@ use Rattle.oxml_driver.specs.declared.compile.CompileErr.{CompileErr}
 use Rattle.oxml_driver.specs.declared.compile.CompileErr.TheVariants.{Refused, Limit, NoMemory}
 use Rattle.oxml_driver.specs.Build.{IsRefused, NotCompiled, Passes, captures, tokens, lexical, syntax_error, misnamed, ill_declared, form, most_bytes}
 use Rattle.oxml_driver.specs.Declarations.{IsDeclared}
+use Rattle.oxml_driver.specs.Types.{IsWellTyped}
 use Rattle.oxml_driver.specs.Names.{IsScoped}
 use Rattle.oxml_driver.specs.Source.{AreTokens, HasNoTree, IsProgram, HasTokens, IsTooMany, LexFails, program_text, file_part, built_in_part, in_file, in_built_in, most_tokens}
 
-passes : (source : List ℕ) (limit : Passed) (span : Option Span) → length source ≤ most_bytes → IsTooMany source → limit ≡ Tokens (most_tokens + 1) → span ≡ None → Passes source limit × (span ≡ None)
-passes source limit span short many is none = (subst (λ l. Passes source l) (sym is) (tokens short many), none)
+passes : (source : List ℕ) (limit : Passed) (span : Option Span) → length source ≤ most_bytes → IsTooMany source → limit ≡ Tokens (most_tokens + 1) → span ≡ None → Passes source limit span
+passes source limit span short many is none = subst (Passes source limit) (sym none) (subst (λ l. Passes source l None) (sym is) (tokens short many))
 
 file_fails : (source : List ℕ) (e : CompileErr) → length source ≤ most_bytes → LexFails (program_text source) (file_part source) e → NotCompiled source e
 file_fails source (Refused r) short fault = record { short = short; violates = lexical (in_file fault) }
@@ -57,10 +58,10 @@ names_fail source text program refusal short is is_program first = record {
   violates = misnamed (record { program = program; is_program = is_program; first = subst (λ t. Explains t program.items (ScopeRefused refusal)) is first });
 }
 
-pub names_pass : (source text : List ℕ) (program : Program) (limit : Passed) → length source ≤ most_bytes → text ≡ program_text source → IsProgram source program → Explains text program.items (ScopeLimit limit) → Passes source limit
+pub names_pass : (source text : List ℕ) (program : Program) (limit : Passed) → length source ≤ most_bytes → text ≡ program_text source → IsProgram source program → Explains text program.items (ScopeLimit limit) → Passes source limit None
 names_pass source text program limit short is is_program why =
     let (which, sound, many) = subst (λ t. Explains t program.items (ScopeLimit limit)) is why in
-    subst (λ l. Passes source l) (sym which) (captures short (record { program = program; is_program = is_program; sound = sound; many = many }))
+    subst (λ l. Passes source l None) (sym which) (captures short (record { program = program; is_program = is_program; sound = sound; many = many }))
 
 pub is_scoped : (source text : List ℕ) (program : Program) (scoped : Scoped) → text ≡ program_text source → IsProgram source program → IsResolved text program scoped → IsScoped source scoped
 is_scoped source text program scoped is is_program resolved =
@@ -82,9 +83,9 @@ is_declared source text scoped is is_scoped sound = record {
   sound = subst (λ t. (refusal : Refusal) → Offends t scoped.types scoped.program.items refusal → ⊥) is sound;
 }
 
-pub form_fails : (source : List ℕ) (scoped : Scoped) (refusal : Refusal) → length source ≤ most_bytes → IsDeclared source scoped → refusal.rule ≡ FormLeftOut → LeftOut scoped (length source) scoped.program.items refusal.span → IsRefused source refusal
-form_fails source scoped refusal short is_declared rule left =
-    record { short = short; violates = form rule is_declared left }
+pub form_fails : (source : List ℕ) (scoped : Scoped) (refusal : Refusal) → length source ≤ most_bytes → IsWellTyped source scoped → refusal.rule ≡ FormLeftOut → LeftOut scoped (length source) scoped.program.items refusal.span → IsRefused source refusal
+form_fails source scoped refusal short is_typed rule left =
+    record { short = short; violates = form rule is_typed left }
 
 pub built_in_part_is : (source text : List ℕ) → text ≡ program_text source → record { start = length source; end = length text } ≡ built_in_part source
 built_in_part_is source text is =

@@ -13,5 +13,8 @@ mod PrinterLoop
 mod PrinterMemory
 mod PrinterRun
 mod PrinterTexts
+mod SameContexts
 mod SameProgram
 mod TakenOnce
+mod TypeLemmas
+mod TypedOnce

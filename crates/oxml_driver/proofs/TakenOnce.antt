@@ -1,5 +1,5 @@
 -- A source is accepted, refused or over a limit, and only one of these.
-use Rattle.std.proofs.Common.{◌≡◌, ℕ, List, [], length, subst, sym, ap, ◌∙◌, arith}
+use Rattle.std.proofs.Common.{◌≡◌, ℕ, List, [], length, map, ◌++◌, Option, subst, sym, ap, ◌∙◌, arith}
 use Rattle.oxml_base.specs.declared.refusal.Limit.{Limit}
 use Rattle.oxml_base.specs.declared.refusal.Refusal.{Refusal}
 use Rattle.oxml_base.specs.declared.span.Span.{Span}
@@ -13,12 +13,24 @@ use Rattle.ml_scope.specs.Readings.{Among, offences, references, type_references
 use Rattle.ml_scope.specs.Resolving.{found_in}
 use Rattle.ml_grammar.specs.Programs.{Derives}
 use Rattle.ml_grammar.proofs.Programs.{one_program}
-use Rattle.oxml_driver.specs.Build.{IsRefused, Passes, PrintsTexts, Violates, lexical, syntax_error, misnamed, ill_declared, form, bytes, tokens, captures as of_captures}
+use Rattle.oxml_driver.specs.Build.{IsRefused, Passes, PrintsTexts, Violates, lexical, syntax_error, misnamed, ill_declared, form, bytes, tokens, captures as of_captures, ill_typed, type_size}
 use Rattle.oxml_driver.specs.Form.{IsLeftOut, ItemPrints, LeftOut, PrintTexts, built_in, prints, prints_none, binds_other, nothing, item_and, here, behind}
+use Rattle.ml_types.specs.declared.declared.Decls.{Decls}
+use Rattle.ml_types.specs.declared.node.TyTable.{TyTable}
+use Rattle.ml_mentions.specs.Programs.{declarations}
 use Rattle.ml_decls.specs.Offences.{Offends}
-use Rattle.oxml_driver.specs.Declarations.{IsDeclared, IsIllDeclared}
+use Rattle.ml_decls.specs.Said.{said, predefined}
+use Rattle.ml_decls.specs.Tables.{Each, Says}
+use Rattle.ml_typing.specs.Typing.{steps_of_item}
+use Rattle.ml_typing.specs.Refusals.{FirstFault, IsTooLarge}
+use Rattle.hm_infer.specs.declared.error.InferErr.TheVariants.{Refused}
+use Rattle.hm_infer.specs.Answers.{IsRefusedBy, items_of}
+use Rattle.oxml_driver.specs.Declarations.{IsDeclared, IsDeclaredAs, IsIllDeclared}
+use Rattle.oxml_driver.specs.Types.{HasLargeType, IsIllTyped, IsWellTyped, UsesApart, context_of}
 use Rattle.oxml_driver.specs.Names.{HasManyCaptures, IsMisnamed, IsScoped}
+use Rattle.oxml_driver.proofs.SameContexts.{IsSame, first_same}
 use Rattle.oxml_driver.proofs.SameProgram.{print_too}
+use Rattle.oxml_driver.proofs.TypedOnce.{refused_too, first_large_too, typed_or_refused, typed_or_too_large, refused_or_too_large}
 use Rattle.oxml_driver.specs.Source.{AreTokens, HasTokens, HasFault, HasTooMany, IsFaulty, IsTooMany, IsProgram, IsNoProgram, in_file, in_built_in, program_text}
 
 -- ---- a part of a text has tokens, a fault or too many
@@ -119,6 +131,46 @@ ill_or_declared {source} {scoped} {r} is wrong =
     let with_types = subst (λ types. Offends (program_text source) types wrong.scoped.program.items r) types wrong.first.offends in
     is.sound r (subst (λ p. Offends (program_text source) scoped.types p.items r) program with_types)
 
+-- ---- the types of a program
+
+-- two programs of a source with their declarations have one list of equations, read by contexts in which
+-- terms stand for the same types
+record Meet (s t : Scoped) (decls kinds : Decls) (table other : TyTable) : Type 0 where
+  items : items_of s ≡ items_of t
+  contexts : IsSame (context_of decls table) (context_of kinds other)
+
+meet : {source : List ℕ} {s t : Scoped} {decls kinds : Decls} {table other : TyTable} → IsDeclaredAs source s decls table → IsDeclaredAs source t kinds other → Meet s t decls kinds table other
+meet {source} {s} {t} {decls} {kinds} {table} {other} one two =
+    let program : s.program ≡ t.program = one_program_of one.is_declared.is_scoped.is_program two.is_declared.is_scoped.is_program in
+    let types : s.types ≡ t.types = same_types one.is_declared.is_scoped two.is_declared.is_scoped in
+    let refs : s.refs ≡ t.refs = same_refs one.is_declared.is_scoped two.is_declared.is_scoped in
+    let say : Each (Says other.nodes) kinds.types (predefined ++ map (said s.types) (declarations s.program.items)) = subst (λ p. Each (Says other.nodes) kinds.types (predefined ++ map (said s.types) (declarations p.items))) (sym program) (subst (λ ts. Each (Says other.nodes) kinds.types (predefined ++ map (said ts) (declarations t.program.items))) (sym types) two.declares.say) in
+    record {
+      items = ap (λ p. map (steps_of_item s.refs s.types) p.items) program ∙ ap (λ rs. map (steps_of_item rs s.types) t.program.items) refs ∙ ap (λ ts. map (steps_of_item t.refs ts) t.program.items) types;
+      contexts = first_same table.nodes other.nodes decls.types kinds.types (predefined ++ map (said s.types) (declarations s.program.items)) one.declares.say say;
+    }
+
+well_or_ill_typed : {source : List ℕ} {s : Scoped} {r : Refusal} → UsesApart source → IsWellTyped source s → IsIllTyped source r → ⊥
+well_or_ill_typed {source} {s} {r} apart well ill =
+    let m : Meet ill.scoped s ill.decls well.decls ill.table well.table = meet ill.declared well.declared in
+    let there : IsRefusedBy (context_of ill.decls ill.table) (items_of s) (Refused r) = subst (λ is. IsRefusedBy (context_of ill.decls ill.table) is (Refused r)) m.items ill.refused in
+    let uses = apart s well.declared.is_declared in
+    typed_or_refused uses.0 (context_of well.decls well.table) (items_of s) uses.1 s.program.nodes well.typed r well.is_typed (refused_too _ _ m.contexts (items_of s) r there)
+
+well_typed_or_large : {source : List ℕ} {s : Scoped} {span : Span} → UsesApart source → IsWellTyped source s → HasLargeType source span → ⊥
+well_typed_or_large {source} {s} {span} apart well large =
+    let m : Meet large.scoped s large.decls well.decls large.table well.table = meet large.declared well.declared in
+    let there : FirstFault (context_of large.decls large.table) (items_of s) (λ e steps. IsTooLarge e steps span) = subst (λ is. FirstFault (context_of large.decls large.table) is (λ e steps. IsTooLarge e steps span)) m.items large.large in
+    let uses = apart s well.declared.is_declared in
+    typed_or_too_large uses.0 (context_of well.decls well.table) (items_of s) uses.1 s.program.nodes well.typed span well.is_typed (first_large_too _ _ m.contexts (items_of s) span there)
+
+ill_typed_or_large : {source : List ℕ} {r : Refusal} {span : Span} → UsesApart source → IsIllTyped source r → HasLargeType source span → ⊥
+ill_typed_or_large {source} {r} {span} apart ill large =
+    let m : Meet large.scoped ill.scoped large.decls ill.decls large.table ill.table = meet large.declared ill.declared in
+    let there : FirstFault (context_of large.decls large.table) (items_of ill.scoped) (λ e steps. IsTooLarge e steps span) = subst (λ is. FirstFault (context_of large.decls large.table) is (λ e steps. IsTooLarge e steps span)) m.items large.large in
+    let uses = apart ill.scoped ill.declared.is_declared in
+    refused_or_too_large uses.0 (context_of ill.decls ill.table) (items_of ill.scoped) uses.1 r span ill.refused (first_large_too _ _ m.contexts (items_of ill.scoped) span there)
+
 -- ---- the items of a file all print, or one is left out
 
 prints_or_not : {s : Scoped} {size : ℕ} {item : Item} {first : List (List ℕ)} → ItemPrints s size item first → IsLeftOut s size item → ⊥
@@ -141,22 +193,25 @@ print_or_left_out {source} {s} {t} {texts} {span} one other print left =
     let too = print_too s t program (same_refs one other) (length source) print in
     all_or_left_out (subst (λ p. PrintTexts t (length source) p.items texts) program too) left
 
-pub accepted_or_refused : {source : List ℕ} {texts : List (List ℕ)} {r : Refusal} → PrintsTexts source texts → IsRefused source r → ⊥
-accepted_or_refused {source} {texts} {r} accepted refused = by refused.violates
+pub accepted_or_refused : {source : List ℕ} {texts : List (List ℕ)} {r : Refusal} → UsesApart source → PrintsTexts source texts → IsRefused source r → ⊥
+accepted_or_refused {source} {texts} {r} apart accepted refused = by refused.violates
   where
     by : Violates source r → ⊥
-    by (lexical fault) = tokens_or_fault accepted.is_declared.is_scoped.is_program.are_tokens fault
-    by (syntax_error rule none) = program_or_none accepted.is_declared.is_scoped.is_program none
-    by (misnamed wrong) = scoped_or_misnamed accepted.is_declared.is_scoped wrong
-    by (ill_declared wrong) = ill_or_declared accepted.is_declared wrong
+    by (lexical fault) = tokens_or_fault accepted.is_typed.declared.is_declared.is_scoped.is_program.are_tokens fault
+    by (syntax_error rule none) = program_or_none accepted.is_typed.declared.is_declared.is_scoped.is_program none
+    by (misnamed wrong) = scoped_or_misnamed accepted.is_typed.declared.is_declared.is_scoped wrong
+    by (ill_declared wrong) = ill_or_declared accepted.is_typed.declared.is_declared wrong
+    by (ill_typed wrong) = well_or_ill_typed apart accepted.is_typed wrong
     by (form rule is left) =
-        print_or_left_out accepted.is_declared.is_scoped is.is_scoped accepted.print left
+        print_or_left_out accepted.is_typed.declared.is_declared.is_scoped is.declared.is_declared.is_scoped accepted.print left
 
-pub accepted_or_over : {source : List ℕ} {texts : List (List ℕ)} {l : Limit} → PrintsTexts source texts → Passes source l → ⊥
-accepted_or_over accepted (bytes long) = let short = accepted.short in omega arith
-accepted_or_over accepted (tokens short many) =
-    tokens_or_many accepted.is_declared.is_scoped.is_program.are_tokens many
-accepted_or_over accepted (of_captures short many) = scoped_or_many accepted.is_declared.is_scoped many
+pub accepted_or_over : {source : List ℕ} {texts : List (List ℕ)} {l : Limit} {place : Option Span} → UsesApart source → PrintsTexts source texts → Passes source l place → ⊥
+accepted_or_over apart accepted (bytes long) = let short = accepted.short in omega arith
+accepted_or_over apart accepted (tokens short many) =
+    tokens_or_many accepted.is_typed.declared.is_declared.is_scoped.is_program.are_tokens many
+accepted_or_over apart accepted (of_captures short many) =
+    scoped_or_many accepted.is_typed.declared.is_declared.is_scoped many
+accepted_or_over apart accepted (type_size short large) = well_typed_or_large apart accepted.is_typed large
 
 refused_or_many_tokens : {source : List ℕ} {r : Refusal} → IsRefused source r → IsTooMany source → ⊥
 refused_or_many_tokens {source} {r} refused many = by refused.violates
@@ -166,7 +221,8 @@ refused_or_many_tokens {source} {r} refused many = by refused.violates
     by (syntax_error rule none) = tokens_or_many none.are_tokens many
     by (misnamed wrong) = tokens_or_many wrong.is_program.are_tokens many
     by (ill_declared wrong) = tokens_or_many wrong.is_scoped.is_program.are_tokens many
-    by (form rule is left) = tokens_or_many is.is_scoped.is_program.are_tokens many
+    by (ill_typed wrong) = tokens_or_many wrong.declared.is_declared.is_scoped.is_program.are_tokens many
+    by (form rule is left) = tokens_or_many is.declared.is_declared.is_scoped.is_program.are_tokens many
 
 refused_or_many_captures : {source : List ℕ} {r : Refusal} → IsRefused source r → HasManyCaptures source → ⊥
 refused_or_many_captures {source} {r} refused many = by refused.violates
@@ -176,9 +232,23 @@ refused_or_many_captures {source} {r} refused many = by refused.violates
     by (syntax_error rule none) = program_or_none many.is_program none
     by (misnamed wrong) = many_or_misnamed many wrong
     by (ill_declared wrong) = scoped_or_many wrong.is_scoped many
-    by (form rule is left) = scoped_or_many is.is_scoped many
+    by (ill_typed wrong) = scoped_or_many wrong.declared.is_declared.is_scoped many
+    by (form rule is left) = scoped_or_many is.declared.is_declared.is_scoped many
 
-pub refused_or_over : {source : List ℕ} {r : Refusal} {l : Limit} → IsRefused source r → Passes source l → ⊥
-refused_or_over refused (bytes long) = let short = refused.short in omega arith
-refused_or_over refused (tokens short many) = refused_or_many_tokens refused many
-refused_or_over refused (of_captures short many) = refused_or_many_captures refused many
+-- a source in which a type is too large has declarations that violate no rule
+refused_or_large : {source : List ℕ} {r : Refusal} {span : Span} → UsesApart source → IsRefused source r → HasLargeType source span → ⊥
+refused_or_large {source} {r} {span} apart refused large = by refused.violates
+  where
+    by : Violates source r → ⊥
+    by (lexical fault) = tokens_or_fault large.declared.is_declared.is_scoped.is_program.are_tokens fault
+    by (syntax_error rule none) = program_or_none large.declared.is_declared.is_scoped.is_program none
+    by (misnamed wrong) = scoped_or_misnamed large.declared.is_declared.is_scoped wrong
+    by (ill_declared wrong) = ill_or_declared large.declared.is_declared wrong
+    by (ill_typed wrong) = ill_typed_or_large apart wrong large
+    by (form rule is left) = well_typed_or_large apart is large
+
+pub refused_or_over : {source : List ℕ} {r : Refusal} {l : Limit} {place : Option Span} → UsesApart source → IsRefused source r → Passes source l place → ⊥
+refused_or_over apart refused (bytes long) = let short = refused.short in omega arith
+refused_or_over apart refused (tokens short many) = refused_or_many_tokens refused many
+refused_or_over apart refused (of_captures short many) = refused_or_many_captures refused many
+refused_or_over apart refused (type_size short large) = refused_or_large apart refused large

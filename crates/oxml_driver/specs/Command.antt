@@ -1,11 +1,13 @@
 -- What the command comes to: each status has its cause, and says what stands behind it.
-use Rattle.std.specs.Prelude.{◌≡◌, ◌⊎◌, ℕ, true, Some, List, [], length, ◌≤◌}
+use Rattle.std.specs.Prelude.{◌≡◌, ◌⊎◌, ℕ, true, Option, Some, List, [], length, ◌≤◌}
 use Rattle.oxml_base.specs.declared.outside.ShelfCall.TheVariants.{Load, Save}
 use Rattle.oxml_base.specs.Outside.{ShelfView, SinkView, Rose, SameHeld, SameBut, SameFaults, ShelfFails, HoldsMore, GainsPart, Puts}
 use Rattle.oxml_base.specs.declared.refusal.Limit.{Limit}
 use Rattle.oxml_base.specs.declared.refusal.Refusal.{Refusal}
+use Rattle.oxml_base.specs.declared.span.Span.{Span}
 use Rattle.oxml_driver.specs.Build.{Compiles, IsRefused, Passes, PrintsTexts, default_sizes, most_bytes}
 use Rattle.oxml_driver.specs.Lines.{usage_line, write_fault_line, no_memory_line, read_fault_line, bytes_limit_line, limit_line, refusal_line}
+use Rattle.oxml_driver.specs.Types.{UsesApart}
 use Rattle.oxml_driver.specs.Words.{IsBuild}
 
 -- what is seen of the outside
@@ -33,17 +35,17 @@ pub record IsTooLong (words : List (List ℕ)) (world : World) (file out : List 
   pub words_are : IsBuild words file out
   pub holds_more : HoldsMore world.shelf file most_bytes
 
--- the source, which is not too long, passes this limit
-pub record PassesLimit (words : List (List ℕ)) (world : World) (file out source : List ℕ) (passed : Limit) : Type 0 where
+-- the source, which is not too long, passes this limit at this place
+pub record PassesLimit (words : List (List ℕ)) (world : World) (file out source : List ℕ) (passed : Limit) (place : Option Span) : Type 0 where
   pub has_source : HasSource words world file out source
   pub short : length source ≤ most_bytes
-  pub passes : Passes source passed
+  pub passes : Passes source passed place
 
 -- a limit is passed, with this line
 pub data IsOver (words : List (List ℕ)) (world : World) (file out : List ℕ) : List ℕ → Type 0 where
   of_bytes : IsTooLong words world file out → IsOver words world file out (bytes_limit_line file)
-  of_source : {source : List ℕ} {passed : Limit} → PassesLimit words world file out source passed →
-      IsOver words world file out (limit_line file passed)
+  of_source : {source : List ℕ} {passed : Limit} {place : Option Span} → PassesLimit words world file out source passed place →
+      IsOver words world file out (limit_line file source passed place)
 
 -- ---- the answers
 
@@ -158,7 +160,7 @@ pub record TellsSource (words : List (List ℕ)) (world : World) (source : List 
 
 -- the words and the source decide the answer, unless memory is wanting
 pub record IsDecided (words : List (List ℕ)) (old : World) (status : ℕ) : Type 0 where
-  pub accepted : (source : List ℕ) (texts : List (List ℕ)) → TellsSource words old source → PrintsTexts source texts → (status ≡ 0) ⊎ (status ≡ 6)
-  pub refused : (source : List ℕ) (refusal : Refusal) → TellsSource words old source → IsRefused source refusal → (status ≡ 1) ⊎ (status ≡ 6)
+  pub accepted : (source : List ℕ) (texts : List (List ℕ)) → TellsSource words old source → UsesApart source → PrintsTexts source texts → (status ≡ 0) ⊎ (status ≡ 6)
+  pub refused : (source : List ℕ) (refusal : Refusal) → TellsSource words old source → UsesApart source → IsRefused source refusal → (status ≡ 1) ⊎ (status ≡ 6)
   pub misread : IsMisread words → (status ≡ 2) ⊎ (status ≡ 6)
-  pub over : (source : List ℕ) (passed : Limit) → TellsSource words old source → Passes source passed → (status ≡ 5) ⊎ (status ≡ 6)
+  pub over : (source : List ℕ) (passed : Limit) (place : Option Span) → TellsSource words old source → UsesApart source → Passes source passed place → (status ≡ 5) ⊎ (status ≡ 6)

@@ -9,4 +9,5 @@ pub mod Prelude
 pub mod Printer
 pub mod Said
 pub mod Source
+pub mod Types
 pub mod Words

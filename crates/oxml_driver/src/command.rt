@@ -98,9 +98,11 @@ fn finish<S: Shelf, E: Sink>(
             1,
             refusal_line(alloc, build.file, source, refusal),
         ),
-        Err(CompileErr::Limit(limit, _)) => {
-            say_made(err, 5, limit_line(alloc, build.file, limit))
-        }
+        Err(CompileErr::Limit(limit, place)) => say_made(
+            err,
+            5,
+            limit_line(alloc, build.file, source, limit, place),
+        ),
         Err(CompileErr::NoMemory) => want_of_memory(err),
     }
 }

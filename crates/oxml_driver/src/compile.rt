@@ -2,10 +2,10 @@ ghost use Rattle.std.specs.Prelude.{◌≡◌, ◌≤◌, ◌-◌, ◌^◌, min,
 ghost use Rattle.oxml_driver.specs.Build.{AreSizes, Compiles, IsPrinter, IsPrinterCode, NotCompiled, PrintsTexts, most_bytes};
 ghost use Rattle.oxml_driver.specs.Printer.{bytes_of, joined};
 
-use crate::declarations::read_declared;
 use crate::form::{FormErr, printed_texts};
 use crate::front::program_text;
 use crate::printer::printer;
+use crate::types::read_typed;
 use elf_image::write_image;
 use oxml_base::{Items, Limit, Lit, NoMemory, Refusal, Rule, Span};
 use std::alloc::Global;
@@ -33,7 +33,8 @@ pub enum CompileErr {
 ///
 /// It refuses a source by the first rule that it violates, or the first limit that it passes, in the
 /// order of the compiler: bytes, tokens, lexical faults, the syntax, names, captures, declarations,
-/// and the first item that is not built yet (rule 25).
+/// types with the limit of a type's size, comparisons, and the first item that is not built yet
+/// (rule 25).
 pub fn compile(alloc: Global, source: &[u8], sizes: Sizes) -> Result<Vec<u8>, CompileErr>
     requires { AreSizes sizes }
     ensures ok { IfOk result (λ image. Compiles source.now sizes image.items) }
@@ -59,7 +60,7 @@ fn texts_of(alloc: Global, source: &[u8]) -> Result<Items<Lit>, CompileErr>
         Ok(text) => text,
         Err(NoMemory) => return Err(CompileErr::NoMemory),
     };
-    let scoped = read_declared(alloc, source, text.as_slice())?;
+    let scoped = read_typed(alloc, source, text.as_slice())?;
     match printed_texts(alloc, &scoped, source.len() as u32) {
         Ok(texts) => Ok(texts),
         Err(FormErr::LeftOut(span)) => Err(CompileErr::Refused(Refusal {

@@ -2,9 +2,9 @@
 ghost use Rattle.std.specs.Prelude.{◌≡◌, ◌≤◌, IfOk, length, take, string_bytes};
 ghost use Rattle.oxml_base.specs.LineColumn.{line_behind, column_behind};
 ghost use Rattle.oxml_driver.specs.Build.{most_bytes};
-ghost use Rattle.oxml_driver.specs.Lines.{bytes_limit_line, captures_limit_line, limit_line, placed_line, read_fault_line, refusal_line, tokens_limit_line};
+ghost use Rattle.oxml_driver.specs.Lines.{bytes_limit_line, captures_limit_line, limit_line, placed_line, read_fault_line, refusal_line, tokens_limit_line, type_limit_line, whole_limit_line};
 
-use oxml_base::{Limit, Refusal, line_col};
+use oxml_base::{Limit, Refusal, Span, line_col};
 use std::alloc::{AllocError, Global};
 
 /// Of words that have no reading as a command.
@@ -42,9 +42,46 @@ pub fn captures_limit_line(alloc: Global, file: &str) -> Result<String, AllocErr
     format!(in alloc; "{file}: limit captures 100001\n")
 }
 
-/// The line of a limit that a source passes.
-pub fn limit_line(alloc: Global, file: &str, limit: Limit) -> Result<String, AllocError>
-    ensures { IfOk result (λ line. string_bytes line ≡ limit_line file.now limit) }
+/// The line of a source in which a type is too large. A place behind the source's end is shown as its end.
+fn type_limit_line(
+    alloc: Global,
+    file: &str,
+    source: &[u8],
+    span: Span,
+) -> Result<String, AllocError>
+    requires short { length source.now ≤ most_bytes }
+    ensures { IfOk result (λ said. string_bytes said ≡ type_limit_line file.now (line_behind (take span.start source.now)) (column_behind (take span.start source.now))) }
+{
+    let (line, column) = place_of(source, place_in(source, span.start));
+    size_line(alloc, file, line, column)
+}
+
+fn size_line(alloc: Global, file: &str, line: u32, column: u32) -> Result<String, AllocError>
+    ensures { IfOk result (λ said. string_bytes said ≡ type_limit_line file.now line column) }
+{
+    format!(in alloc; "{file}:{line}:{column}: limit type size 2001\n")
+}
+
+/// The line of a limit that a source passes; one with a place is that of a type's size.
+pub fn limit_line(
+    alloc: Global,
+    file: &str,
+    source: &[u8],
+    limit: Limit,
+    place: Option<Span>,
+) -> Result<String, AllocError>
+    requires short { length source.now ≤ most_bytes }
+    ensures { IfOk result (λ line. string_bytes line ≡ limit_line file.now source.now limit place) }
+{
+    match place {
+        Some(span) => type_limit_line(alloc, file, source, span),
+        None => whole_limit_line(alloc, file, limit),
+    }
+}
+
+/// The line of a limit without a place.
+fn whole_limit_line(alloc: Global, file: &str, limit: Limit) -> Result<String, AllocError>
+    ensures { IfOk result (λ line. string_bytes line ≡ whole_limit_line file.now limit) }
 {
     match limit {
         Limit::Tokens(_) => tokens_limit_line(alloc, file),

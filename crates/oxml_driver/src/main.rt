@@ -12,6 +12,7 @@ mod names;
 mod printer;
 #[cfg(test)]
 mod tests;
+mod types;
 mod words;
 
 use command::{oxml, want_of_memory};

@@ -132,7 +132,7 @@ fn refused(rule: Rule, start: u32, end: u32) -> Option<CompileErr> {
 
 #[test]
 fn the_first_refusal_in_order_is_named(rt: HostRuntime) -> Result<(), Fail> {
-    let cases: [(&[u8], Rule, u32, u32); 36] = [
+    let cases: [(&[u8], Rule, u32, u32); 49] = [
         // lexical faults come before all others
         (b"let () = () (* cut", Rule::OpenComment, 12, 14),
         (
@@ -168,7 +168,70 @@ fn the_first_refusal_in_order_is_named(rt: HostRuntime) -> Result<(), Fail> {
         (b"type t = 'a", Rule::UnboundVariable, 9, 11),
         (b"type t = C type t = D", Rule::DeclaredTwice, 16, 17),
         (b"type t = t", Rule::CyclicAbbreviation, 5, 6),
+        (
+            b"let () = print_int \"a\" type t = 'a",
+            Rule::UnboundVariable,
+            32,
+            34,
+        ),
+        // then types: the first part of the program whose equation leaves no solution
+        (b"let () = print_int \"a\"", Rule::TypesDiffer, 19, 22),
+        (b"let f x = x x", Rule::InfiniteType, 12, 13),
+        (
+            b"let x = 1 let f x = x x let () = print_int \"a\"",
+            Rule::InfiniteType,
+            22,
+            23,
+        ),
+        (
+            b"let () = print_string \"a\" \"b\"",
+            Rule::TypesDiffer,
+            9,
+            21,
+        ),
+        (b"let () = print_int \"one\"", Rule::TypesDiffer, 19, 24),
+        (
+            b"let a = print_string \"a\" \"b\"",
+            Rule::TypesDiffer,
+            8,
+            20,
+        ),
+        (b"let () = print_string 'a'", Rule::TypesDiffer, 22, 25),
+        (b"let () = print_string", Rule::TypesDiffer, 9, 21),
+        // then comparisons
+        (b"let a = (1, 2) = (3, 4)", Rule::Comparison, 8, 23),
+        (b"let f x y = x < y", Rule::Comparison, 12, 17),
+        (
+            b"let least a b = if a < b then a else b",
+            Rule::Comparison,
+            19,
+            24,
+        ),
+        (
+            b"let f x y = x < y let () = print_int \"a\"",
+            Rule::TypesDiffer,
+            37,
+            40,
+        ),
+        (
+            b"let x = 1 let f x y = x < y let a = f = f",
+            Rule::Comparison,
+            22,
+            27,
+        ),
         // then the first item of the file that is not built
+        (
+            b"let least (a : int) b = if a < b then a else b",
+            Rule::LeftOut,
+            0,
+            46,
+        ),
+        (
+            b"type t = T of (t -> int) let f (T g) = g (T g)",
+            Rule::LeftOut,
+            0,
+            24,
+        ),
         (b"let () = print_int 1", Rule::LeftOut, 0, 20),
         (
             b"let () = print_string \"a\" let x = 1 let y = 2",
@@ -195,10 +258,7 @@ fn the_first_refusal_in_order_is_named(rt: HostRuntime) -> Result<(), Fail> {
             0,
             37,
         ),
-        (b"let () = print_string \"a\" \"b\"", Rule::LeftOut, 0, 29),
         (b"let () = prerr_string \"a\"", Rule::LeftOut, 0, 25),
-        (b"let () = print_string 'a'", Rule::LeftOut, 0, 25),
-        (b"let () = print_string", Rule::LeftOut, 0, 21),
     ];
     for (source, rule, start, end) in cases {
         assert_eq!(rt;
@@ -206,6 +266,43 @@ fn the_first_refusal_in_order_is_named(rt: HostRuntime) -> Result<(), Fail> {
             refused(rule, start, end)
         );
     }
+    Ok(())
+}
+
+/// An item that calls `d`, which makes a pair of two equal values, so many times.
+fn doubled(alloc: Global, times: usize) -> Result<Vec<u8>, Fail> {
+    let mut source = b"let d x = (x, x)\nlet () = ignore ".to_vec(alloc)?;
+    source.extend_from_slice(repeated(alloc, b"(d ", times)?.as_slice())?;
+    source.push(b'0')?;
+    source.extend_from_slice(vec![in alloc; b')'; times]?.as_slice())?;
+    Ok(source)
+}
+
+#[test]
+fn types_are_taken_up_to_the_limit_of_their_size(rt: HostRuntime) -> Result<(), Fail> {
+    let alloc = rt.alloc();
+    let most = doubled(alloc, 9)?;
+    let err = compile(alloc, most.as_slice(), SMALL).err();
+    assert_eq!(rt; err, refused(Rule::LeftOut, 0, 16));
+    // the tenth call, which is the outermost
+    let mut over = doubled(alloc, 10)?;
+    let limit = Some(CompileErr::Limit(Limit::TypeSize(2_001), Some(Span { start: 34, end: 73 })));
+    assert_eq!(rt; compile(alloc, over.as_slice(), SMALL).err(), limit);
+    let named = b"let d x = (x, x)\nlet a = d (d (d (d (d (d (d (d (d (d 0)))))))))";
+    let limit = Some(CompileErr::Limit(Limit::TypeSize(2_001), Some(Span { start: 25, end: 64 })));
+    assert_eq!(rt; compile(alloc, named.as_slice(), SMALL).err(), limit);
+    // the limit before comparisons, wherever they stand, and the earlier step first
+    let mut first = b"let f x y = x < y\n".to_vec(alloc)?;
+    first.extend_from_slice(over.as_slice())?;
+    let limit = Some(CompileErr::Limit(Limit::TypeSize(2_001), Some(Span { start: 52, end: 91 })));
+    assert_eq!(rt; compile(alloc, first.as_slice(), SMALL).err(), limit);
+    let mut before = b"let f x = x x\n".to_vec(alloc)?;
+    before.extend_from_slice(over.as_slice())?;
+    let err = compile(alloc, before.as_slice(), SMALL).err();
+    assert_eq!(rt; err, refused(Rule::InfiniteType, 12, 13));
+    over.extend_from_slice(b" let f x = x x")?;
+    let limit = Some(CompileErr::Limit(Limit::TypeSize(2_001), Some(Span { start: 34, end: 73 })));
+    assert_eq!(rt; compile(alloc, over.as_slice(), SMALL).err(), limit);
     Ok(())
 }
 
@@ -361,7 +458,7 @@ struct Case<'a> {
 
 const USAGE: &[u8] = b"usage: oxml build|check|run|sim|places|sample|sample-build\n";
 
-const CASES: [Case<'static>; 18] = [
+const CASES: [Case<'static>; 22] = [
     Case {
         words: &["build", "hi.ml", "-o", "hi"],
         fail: (&[], &[]),
@@ -403,6 +500,30 @@ const CASES: [Case<'static>; 18] = [
         fail: (&[], &[]),
         status: 1,
         err: b"unbound.ml:2:1: rule 20: unbound value\n",
+    },
+    Case {
+        words: &["build", "differ.ml", "-o", "a"],
+        fail: (&[], &[]),
+        status: 1,
+        err: b"differ.ml:2:12: rule 40: types differ\n",
+    },
+    Case {
+        words: &["build", "infinite.ml", "-o", "a"],
+        fail: (&[], &[]),
+        status: 1,
+        err: b"infinite.ml:1:13: rule 41: type would contain itself\n",
+    },
+    Case {
+        words: &["build", "compare.ml", "-o", "a"],
+        fail: (&[], &[]),
+        status: 1,
+        err: b"compare.ml:1:9: rule 42: comparison at this type\n",
+    },
+    Case {
+        words: &["build", "size.ml", "-o", "a"],
+        fail: (&[], &[]),
+        status: 5,
+        err: b"size.ml:2:18: limit type size 2001\n",
     },
     Case {
         words: &["build", "tokens.ml", "-o", "a"],
@@ -478,6 +599,7 @@ fn each_status_has_its_line(rt: HostRuntime) -> Result<(), Fail> {
     let long = vec![in alloc; b' '; 1_048_577]?;
     let tokens = repeated(alloc, b";;", 200_001)?;
     let captures = capturing(alloc, 101)?;
+    let size = doubled(alloc, 10)?;
     for case in CASES {
         let mut shelf = MemShelf::new(alloc, case.fail.0.to_vec(alloc)?);
         shelf.hold("hi.ml", HI)?;
@@ -488,6 +610,10 @@ fn each_status_has_its_line(rt: HostRuntime) -> Result<(), Fail> {
         shelf.hold("long.ml", long.as_slice())?;
         shelf.hold("tokens.ml", tokens.as_slice())?;
         shelf.hold("unbound.ml", b"let f () =\nx")?;
+        shelf.hold("differ.ml", b"let a =\n print_int \"a\"")?;
+        shelf.hold("infinite.ml", b"let f x = x x")?;
+        shelf.hold("compare.ml", b"let a = (1, 2) = (3, 4)")?;
+        shelf.hold("size.ml", size.as_slice())?;
         shelf.hold("captures.ml", captures.as_slice())?;
         let mut out = MemSink::new(alloc, 100, vec![in alloc]?)?;
         let mut err = MemSink::new(alloc, 100, case.fail.1.to_vec(alloc)?)?;

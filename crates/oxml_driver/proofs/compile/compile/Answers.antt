@@ -1,10 +1,9 @@
-use Rattle.std.proofs.Common.{refl}
 use Rattle.oxml_driver.specs.Build.{bytes}
 use Rattle.oxml_driver.proofs.MeaningLemmas.{compiles}
 use Rattle.oxml_driver.proofs.compile.compile.Goals as goal
 
 pub returns-then-source-gt-MOST_BYTES-clause-err : goal.returns-then-source-gt-MOST_BYTES-clause-err
-returns-then-source-gt-MOST_BYTES-clause-err c = (bytes c.if-source-gt-MOST_BYTES.true, refl)
+returns-then-source-gt-MOST_BYTES-clause-err c = bytes c.if-source-gt-MOST_BYTES.true
 
 -- what prints the texts does what the program means
 pub returns-in-Ok-clause-ok : goal.returns-in-Ok-clause-ok

@@ -6,7 +6,7 @@ pub returns-in-Ok-printed_texts-clause-ok : goal.returns-in-Ok-printed_texts-cla
 returns-in-Ok-printed_texts-clause-ok c = record {
   short = c.requires;
   scoped = c.in_ok-scoped.scoped;
-  is_declared = c.in_ok-scoped.ensures.ok;
+  is_typed = c.in_ok-scoped.ensures.ok;
   print = c.in-Ok-printed_texts.ensures.ok;
 }
 

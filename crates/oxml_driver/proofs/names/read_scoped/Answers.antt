@@ -1,4 +1,3 @@
-use Rattle.std.proofs.Common.{refl}
 use Rattle.oxml_driver.proofs.FrontLemmas.{is_scoped, names_fail, names_pass}
 use Rattle.oxml_driver.proofs.names.read_scoped.Goals as goal
 
@@ -16,4 +15,4 @@ returns-in-Err-Refused-clause-err c =
 pub returns-in-Err-Limit-clause-err : goal.returns-in-Err-Limit-clause-err
 returns-in-Err-Limit-clause-err c =
     let why = rw c.in-Err-Limit.field-0-is at c.in-Err-Limit.ensures.err in
-    (names_pass c.args.source.now c.args.text.now c.in_ok-program.program c.in-Err-Limit.limit c.requires.short c.requires.text c.in_ok-program.ensures.ok why, refl)
+    names_pass c.args.source.now c.args.text.now c.in_ok-program.program c.in-Err-Limit.limit c.requires.short c.requires.text c.in_ok-program.ensures.ok why
