@@ -2,7 +2,6 @@ mod BuiltInLemmas
 mod CommandLemmas
 mod CompileLemmas
 mod DecidedLemmas
-mod DeclaredTypes
 mod FormLemmas
 mod FrontLemmas
 mod LineLemmas

@@ -1,6 +1,7 @@
 -- Over two tables with the declarations of one program terms stand for the same types, so that a program
 -- has types, or a fault, over both.
 use Rattle.std.proofs.Common.{◌≡◌, ℕ, zero, suc, ◌+◌, ◌<◌, Bool, true, false, cond, List, [], ◌∷◌, ◌++◌, map, take, length, Option, Some, None, slice_get, refl, sym, ap, ◌∙◌, subst}
+use Rattle.std.specs.Prelude.{option_map}
 use Rattle.std.proofs.lemmas.Option.{get_or_from_slice_get}
 use Rattle.oxml_base.specs.declared.span.Span.{Span}
 use Rattle.ml_tree.specs.declared.reference.Op.{Op}
@@ -20,26 +21,41 @@ use Rattle.ml_typing.specs.declared.equation.Term.{Term, fold-Term}
 use Rattle.ml_typing.specs.declared.equation.Term.TheOpen as t
 use Rattle.ml_typing.specs.declared.equation.Term.TheOpen.{Term-F}
 use Rattle.ml_typing.specs.Terms.{Shape, Is, Make, shapes, Context, with_shapes, fresh_from, at_fresh, product, no_shape, no_shapes, shape_at, named, made, argument, field, cons_of, fields_of, top, term_step, shape_of}
-use Rattle.ml_typing.specs.Typing.{Assignment, Pair, Satisfies, pair_of, step_pairs, pairs, is_among, behind, behind_all, IsPrincipal, IsTyped, ItemSteps, first_context}
+use Rattle.declared_laws.specs.Expanding.{expand, layers, bodies, declared_types}
+use Rattle.ml_typing.specs.Typing.{alias_of, Assignment, Pair, Satisfies, pair_of, step_pairs, pairs, is_among, behind, behind_all, IsPrincipal, IsTyped, ItemSteps, first_context}
 use Rattle.ml_typing.specs.Refusals.{HasSolution, NoSolution, Fits, IsRuleOf, IsUnsolved, IsTooLarge, HasTypes, FirstFault}
 
 -- ---- what terms stand for, by what the declarations say
 
-abbrev named_said : ℕ → List Shape → Option Said → Shape
-named_said d args None = Make (ConHead d (length args)) (shapes args)
-named_said d args (Some said) = elim said.alias [ None ↦ Make (ConHead d (length args)) (shapes args) | Some body ↦ with_shapes (shape_at args) body ]
+-- what a declaration says that it abbreviates
+abbrev alias_said : Option Said → Option Tree
+alias_said None = None
+alias_said (Some said) = said.alias
+
+abbrev bodies_said : List Said → ℕ → Option Tree
+bodies_said said d = alias_said (slice_get said d)
+
+-- a type that a declaration says, in which the names of abbreviations are replaced by the types that
+-- they stand for
+abbrev expanded : List Said → Tree → Tree
+expanded said w = expand (layers (bodies_said said) (length said)) w
+
+-- a type is expanded by E
+abbrev named_said : (Tree → Tree) → ℕ → List Shape → Option Said → Shape
+named_said E d args None = Make (ConHead d (length args)) (shapes args)
+named_said E d args (Some said) = elim said.alias [ None ↦ Make (ConHead d (length args)) (shapes args) | Some body ↦ with_shapes (shape_at args) (E body) ]
 
 abbrev made_said : ℕ → ℕ → Option Said → Shape
 made_said d node None = Make (ConHead d 0) no_shapes
 made_said d node (Some said) = Make (ConHead d said.vars) (shapes (fresh_from node said.vars 0))
 
-abbrev argument_said : ℕ → Option SaidCon → Shape
-argument_said node None = no_shape
-argument_said node (Some con) = product (map (λ (a : SaidArg). at_fresh node a.ty) con.args)
+abbrev argument_said : (Tree → Tree) → ℕ → Option SaidCon → Shape
+argument_said E node None = no_shape
+argument_said E node (Some con) = product (map (λ (a : SaidArg). at_fresh node (E a.ty)) con.args)
 
-abbrev field_said : ℕ → Option SaidField → Shape
-field_said node None = no_shape
-field_said node (Some f) = at_fresh node f.arg.ty
+abbrev field_said : (Tree → Tree) → ℕ → Option SaidField → Shape
+field_said E node None = no_shape
+field_said E node (Some f) = at_fresh node (E f.arg.ty)
 
 abbrev cons_said : Option Said → List SaidCon
 cons_said None = []
@@ -66,20 +82,43 @@ both_at R (x ∷ xs) (y ∷ ys) h (suc i) = both_at R xs ys h.1 i
 shape_more : (x y : Shape) (xs ys : List Shape) → x ≡ y → xs ≡ ys → x ∷ xs ≡ y ∷ ys
 shape_more x y xs ys e g = cc
 
-module _ (nodes : List TyNode) where
-  abbrev type_in : TyId → Tree
-  type_in = tree_in (trees_of nodes)
+raw_type_is : (nodes : List TyNode) (x : TyId) (w : Tree) → HasType nodes x w → tree_in (trees_of nodes) x ≡ w
+raw_type_is nodes x w h = get_or_from_slice_get (trees_of nodes) x.0 w (Leaf 0) h
 
-  type_is : (x : TyId) (w : Tree) → HasType nodes x w → type_in x ≡ w
-  type_is x w h = get_or_from_slice_get (trees_of nodes) x.0 w (Leaf 0) h
+alias_same : (nodes : List TyNode) (o : Option TyId) (p : Option Tree) → AliasSays nodes o p → option_map (tree_in (trees_of nodes)) o ≡ p
+alias_same nodes None None h = refl
+alias_same nodes None (Some w) h = absurd h
+alias_same nodes (Some x) None h = absurd h
+alias_same nodes (Some x) (Some w) h = ap Some (raw_type_is nodes x w h)
 
-  alias_is : (d : ℕ) (args : List Shape) (o : Option TyId) (p : Option Tree) → AliasSays nodes o p → elim o as (λ z. Shape) [ None ↦ Make (ConHead d (length args)) (shapes args) | Some body ↦ with_shapes (shape_at args) (type_in body) ] ≡ elim p as (λ z. Shape) [ None ↦ Make (ConHead d (length args)) (shapes args) | Some body ↦ with_shapes (shape_at args) body ]
+body_same : (nodes : List TyNode) (o : Option DeclInfo) (p : Option Said) → Both (Says nodes) o p → option_map (tree_in (trees_of nodes)) (alias_of o) ≡ alias_said p
+body_same nodes None None h = refl
+body_same nodes None (Some y) h = absurd h
+body_same nodes (Some x) None h = absurd h
+body_same nodes (Some x) (Some y) h = alias_same nodes x.alias y.alias h.alias
+
+each_length : {A B : Type 0} → (R : A → B → Type 0) (xs : List A) (ys : List B) → Each R xs ys → length xs ≡ length ys
+each_length R [] [] h = refl
+each_length R [] (y ∷ ys) h = absurd h
+each_length R (x ∷ xs) [] h = absurd h
+each_length R (x ∷ xs) (y ∷ ys) h = ap suc (each_length R xs ys h.1)
+
+-- the types of a table are those that its declarations say, expanded
+expanded_is : (nodes : List TyNode) (infos : List DeclInfo) (said : List Said) → Each (Says nodes) infos said → (x : TyId) (w : Tree) → HasType nodes x w → declared_types infos nodes x ≡ expanded said w
+expanded_is nodes infos said h x w t =
+    let bodies_same : bodies infos nodes ≡ bodies_said said = λ i d. body_same nodes (slice_get infos d) (slice_get said d) (both_at (Says nodes) infos said h d) i in
+    ap (λ (f : ℕ → Option Tree). expand (layers f (length infos)) (tree_in (trees_of nodes) x)) bodies_same
+    ∙ ap (λ n. expand (layers (bodies_said said) n) (tree_in (trees_of nodes) x)) (each_length (Says nodes) infos said h)
+    ∙ ap (expanded said) (raw_type_is nodes x w t)
+
+module _ (nodes : List TyNode) (type_in : TyId → Tree) (E : Tree → Tree) (type_is : (x : TyId) (w : Tree) → HasType nodes x w → type_in x ≡ E w) where
+  alias_is : (d : ℕ) (args : List Shape) (o : Option TyId) (p : Option Tree) → AliasSays nodes o p → elim o as (λ z. Shape) [ None ↦ Make (ConHead d (length args)) (shapes args) | Some body ↦ with_shapes (shape_at args) (type_in body) ] ≡ elim p as (λ z. Shape) [ None ↦ Make (ConHead d (length args)) (shapes args) | Some body ↦ with_shapes (shape_at args) (E body) ]
   alias_is d args None None h = refl
   alias_is d args None (Some w) h = absurd h
   alias_is d args (Some x) None h = absurd h
   alias_is d args (Some x) (Some w) h = ap (with_shapes (shape_at args)) (type_is x w h)
 
-  named_is : (d : ℕ) (args : List Shape) (o : Option DeclInfo) (p : Option Said) → Both (Says nodes) o p → named type_in d args o ≡ named_said d args p
+  named_is : (d : ℕ) (args : List Shape) (o : Option DeclInfo) (p : Option Said) → Both (Says nodes) o p → named type_in d args o ≡ named_said E d args p
   named_is d args None None h = refl
   named_is d args None (Some y) h = absurd h
   named_is d args (Some x) None h = absurd h
@@ -91,19 +130,19 @@ module _ (nodes : List TyNode) where
   made_is d node (Some x) None h = absurd h
   made_is d node (Some x) (Some y) h = ap (λ v. Make (ConHead d v) (shapes (fresh_from node v 0))) h.vars
 
-  args_are : (node : ℕ) (xs : List ArgInfo) (ys : List SaidArg) → Each (ArgSays nodes) xs ys → map (λ (a : ArgInfo). at_fresh node (type_in a.ty)) xs ≡ map (λ (a : SaidArg). at_fresh node a.ty) ys
+  args_are : (node : ℕ) (xs : List ArgInfo) (ys : List SaidArg) → Each (ArgSays nodes) xs ys → map (λ (a : ArgInfo). at_fresh node (type_in a.ty)) xs ≡ map (λ (a : SaidArg). at_fresh node (E a.ty)) ys
   args_are node [] [] h = refl
   args_are node [] (y ∷ ys) h = absurd h
   args_are node (x ∷ xs) [] h = absurd h
   args_are node (x ∷ xs) (y ∷ ys) h = shape_more _ _ _ _ (ap (at_fresh node) (type_is x.ty y.ty h.0.ty)) (args_are node xs ys h.1)
 
-  argument_is : (node : ℕ) (o : Option ConInfo) (p : Option SaidCon) → Both (ConSays nodes) o p → argument type_in node o ≡ argument_said node p
+  argument_is : (node : ℕ) (o : Option ConInfo) (p : Option SaidCon) → Both (ConSays nodes) o p → argument type_in node o ≡ argument_said E node p
   argument_is node None None h = refl
   argument_is node None (Some y) h = absurd h
   argument_is node (Some x) None h = absurd h
   argument_is node (Some x) (Some y) h = ap product (args_are node x.args y.args h.args)
 
-  field_is : (node : ℕ) (o : Option FieldInfo) (p : Option SaidField) → Both (FieldSays nodes) o p → field type_in node o ≡ field_said node p
+  field_is : (node : ℕ) (o : Option FieldInfo) (p : Option SaidField) → Both (FieldSays nodes) o p → field type_in node o ≡ field_said E node p
   field_is node None None h = refl
   field_is node None (Some y) h = absurd h
   field_is node (Some x) None h = absurd h
@@ -131,16 +170,22 @@ pub record IsSame (c d : Context) : Type 0 where
   pub operations : (op : Op) → c.operation op ≡ d.operation op
   pub schemes : (b : ℕ) → c.scheme b ≡ d.scheme b
 
-pub first_same : (nodes others : List TyNode) (infos kinds : List DeclInfo) (said : List Said) → Each (Says nodes) infos said → Each (Says others) kinds said → IsSame (first_context infos (tree_in (trees_of nodes))) (first_context kinds (tree_in (trees_of others)))
+pub first_same : (nodes others : List TyNode) (infos kinds : List DeclInfo) (said : List Said) → Each (Says nodes) infos said → Each (Says others) kinds said → IsSame (first_context infos (declared_types infos nodes)) (first_context kinds (declared_types kinds others))
 first_same nodes others infos kinds said h k = record {
-  names = λ q args. named_is nodes q args _ _ (one q) ∙ sym (named_is others q args _ _ (other q));
-  makes = λ q node. made_is nodes q node _ _ (one q) ∙ sym (made_is others q node _ _ (other q));
-  takes = λ q j node. argument_is nodes node _ _ (con_at nodes j _ _ (one q)) ∙ sym (argument_is others node _ _ (con_at others j _ _ (other q)));
-  holds = λ q j node. field_is nodes node _ _ (field_at nodes j _ _ (one q)) ∙ sym (field_is others node _ _ (field_at others j _ _ (other q)));
+  names = λ q args. named_is nodes (declared_types infos nodes) (expanded said) first q args _ _ (one q) ∙ sym (named_is others (declared_types kinds others) (expanded said) second q args _ _ (other q));
+  makes = λ q node. made_is nodes (declared_types infos nodes) (expanded said) first q node _ _ (one q) ∙ sym (made_is others (declared_types kinds others) (expanded said) second q node _ _ (other q));
+  takes = λ q j node. argument_is nodes (declared_types infos nodes) (expanded said) first node _ _ (con_at nodes (declared_types infos nodes) (expanded said) first j _ _ (one q)) ∙ sym (argument_is others (declared_types kinds others) (expanded said) second node _ _ (con_at others (declared_types kinds others) (expanded said) second j _ _ (other q)));
+  holds = λ q j node. field_is nodes (declared_types infos nodes) (expanded said) first node _ _ (field_at nodes (declared_types infos nodes) (expanded said) first j _ _ (one q)) ∙ sym (field_is others (declared_types kinds others) (expanded said) second node _ _ (field_at others (declared_types kinds others) (expanded said) second j _ _ (other q)));
   operations = λ op. refl;
   schemes = λ b. refl;
 }
   where
+    first : (x : TyId) (w : Tree) → HasType nodes x w → declared_types infos nodes x ≡ expanded said w
+    first = expanded_is nodes infos said h
+
+    second : (x : TyId) (w : Tree) → HasType others x w → declared_types kinds others x ≡ expanded said w
+    second = expanded_is others kinds said k
+
     one : (q : ℕ) → Both (Says nodes) (slice_get infos q) (slice_get said q)
     one q = both_at (Says nodes) infos said h q
 

@@ -5,7 +5,7 @@ use Rattle.oxml_base.specs.declared.span.Span.{Span}
 use Rattle.ml_tree.specs.declared.scoped.Scoped.{Scoped}
 use Rattle.ml_types.specs.declared.declared.Decls.{Decls}
 use Rattle.ml_types.specs.declared.node.TyTable.{TyTable}
-use Rattle.ml_decls.specs.Tables.{tree_in, trees_of}
+use Rattle.declared_laws.specs.Expanding.{declared_types}
 use Rattle.ml_typing.specs.declared.typed.Typed.{Typed}
 use Rattle.ml_typing.specs.Terms.{Context}
 use Rattle.ml_typing.specs.Typing.{first_context}
@@ -20,9 +20,9 @@ abbrev pub most_type_size : ℕ
 most_type_size = 2_000
 
 -- what the equations of a program are read by before its first item: its declarations, each id of their
--- table at its type
+-- table at its type, with abbreviations expanded
 abbrev pub context_of : Decls → TyTable → Context
-context_of decls table = first_context decls.types (tree_in (trees_of table.nodes))
+context_of decls table = first_context decls.types (declared_types decls.types table.nodes)
 
 -- the program of the source, whose declarations violate no rule, has principal types, none of which is too
 -- large, and compares values of types that can be compared only

@@ -1,15 +1,5 @@
-use Rattle.oxml_driver.proofs.TypeLemmas.{table_of, types_within, is_well_typed, types_fail, types_pass}
+use Rattle.oxml_driver.proofs.TypeLemmas.{is_well_typed, types_fail, types_pass}
 use Rattle.oxml_driver.proofs.types.read_typed.Goals as goal
-
-pub infer-requires-clause-table : goal.infer-requires-clause-table
-infer-requires-clause-table c =
-    let made = c.in_ok-scoped.field-0 in
-    table_of c.args.source.now made.scoped made.decls made.table c.in_ok-scoped.ensures.ok
-
-pub infer-requires-clause-within : goal.infer-requires-clause-within
-infer-requires-clause-within c =
-    let made = c.in_ok-scoped.field-0 in
-    types_within c.args.source.now made.scoped made.decls made.table c.in_ok-scoped.ensures.ok
 
 pub returns-in-Ok-clause-ok : goal.returns-in-Ok-clause-ok
 returns-in-Ok-clause-ok c =
