@@ -1,5 +1,5 @@
 -- What inference over the declarations of a source comes to for the source.
-use Rattle.std.proofs.Common.{◌≡◌, ℕ, ◌≤◌, List, length, Some, refl, sym, subst}
+use Rattle.std.proofs.Common.{ℕ, ◌≤◌, List, length, Some, sym, subst}
 use Rattle.oxml_base.specs.declared.refusal.Limit.{Limit as Passed}
 use Rattle.oxml_base.specs.declared.refusal.Refusal.{Refusal}
 use Rattle.oxml_base.specs.declared.span.Span.{Span}
