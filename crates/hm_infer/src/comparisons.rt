@@ -1,11 +1,4 @@
 //! Comparisons at types that have none.
-ghost use Rattle.std.specs.Prelude.{◌≡◌, IfOk};
-ghost use Rattle.std.specs.Bool.{MatchBool};
-ghost use Rattle.ml_typing.specs.Typing.{Assignment};
-ghost use Rattle.ml_typing.specs.Refusals.{CanCompare};
-ghost use Rattle.hm_terms.specs.Stores.{store};
-ghost use Rattle.hm_infer.specs.Running.{IsShown};
-ghost use Rattle.hm_infer.specs.Compared.{FirstBad};
 
 use hm_terms::Solver;
 use ml_types::TyNode;
@@ -14,7 +7,6 @@ use oxml_base::{NoMemory, Span};
 
 /// Whether values of a type can be compared: `int`, `char`, `string`, `bool` and `unit`.
 fn can_compare(solver: &Solver, unknown: Unknown) -> Result<bool, NoMemory>
-    ensures { IfOk result (λ can. (a : Assignment) → IsShown (store solver.now) a → MatchBool can (CanCompare (a unknown)) (CanCompare (a unknown) → ⊥)) }
 {
     // The operands of a step that was run have a type.
     let id = solver.known(unknown).ok_or(NoMemory)?;
@@ -26,7 +18,6 @@ fn can_compare(solver: &Solver, unknown: Unknown) -> Result<bool, NoMemory>
 
 /// The span of the first comparison whose operands have another type.
 pub fn bad_comparison(solver: &Solver, steps: &[Step]) -> Result<Option<Span>, NoMemory>
-    ensures { IfOk result (λ bad. (a : Assignment) → IsShown (store solver.now) a → FirstBad steps.now a bad) }
 {
     for step in steps {
         if let Some(operands) = step.compared {

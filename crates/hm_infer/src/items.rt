@@ -1,12 +1,4 @@
 //! One item: its steps, its comparisons, and what it leaves for the items behind it.
-ghost use Rattle.std.specs.Prelude.{◌++◌, ◌∷◌, List, [], OnOk, IfErr};
-ghost use Rattle.ml_typing.specs.Terms.{Context};
-ghost use Rattle.ml_typing.specs.Typing.{Assignment, ItemSteps, behind_all, steps_of_item};
-ghost use Rattle.hm_terms.specs.Stores.{store};
-ghost use Rattle.hm_terms.specs.Contexts.{IsRead};
-ghost use Rattle.hm_infer.specs.Running.{HasNoIds};
-ghost use Rattle.hm_infer.specs.Answers.{Checked, IsItemFault, IsLimitAt, IsRefusedAt, Behind, SomeBehind};
-ghost use Rattle.hm_infer.specs.Closing.{Leaves};
 
 use crate::comparisons::bad_comparison;
 use crate::error::InferErr;
@@ -35,8 +27,6 @@ pub struct Found {
 
 /// Runs the steps of an item, each of which must have a solution and make no type too large.
 fn check_item(solver: &mut Solver, d: &Decls, steps: &[Step]) -> Result<(), InferErr>
-    ensures ok { OnOk result ((c : Context) → IsRead (store solver.old) d.now.types c → HasNoIds (store solver.old) → Checked (store solver.new) d.now.types c steps.now) }
-    ensures err { IfErr result (λ e. (c : Context) → IsRead (store solver.old) d.now.types c → HasNoIds (store solver.old) → IsItemFault c steps.now e) }
 {
     solver.sound();
     let progress = run_steps(solver, d, steps)?;
@@ -58,8 +48,6 @@ fn check_item(solver: &mut Solver, d: &Decls, steps: &[Step]) -> Result<(), Infe
 
 /// The limit at the step of this place.
 fn too_large(steps: &[Step], place: usize) -> Result<(), InferErr>
-    ensures ok { OnOk result ⊥ }
-    ensures err { IfErr result (λ e. IsLimitAt steps.now place e) }
 {
     match at(steps, place) {
         Some(step) => Err(InferErr::Limit(Limit::TypeSize(2001), step.span)),
@@ -75,8 +63,6 @@ fn unsolved(
     place: usize,
     span: Span,
 ) -> Result<(), InferErr>
-    ensures ok { OnOk result ⊥ }
-    ensures err { IfErr result (λ e. (c : Context) → IsRead (store solver.old) d.now.types c → IsRefusedAt c steps.now place span e) }
 {
     let Some(behind) = place.checked_add(1) else {
         return Err(InferErr::NoMemory)
@@ -96,8 +82,6 @@ pub fn infer_item(
     item: &Item,
     found: &mut Found,
 ) -> Result<(), InferErr>
-    ensures ok { OnOk result ((c : Context) (items : List ItemSteps) (types : List Assignment) → Behind (store solver.old) d.now.types c items types found.old → SomeBehind (store solver.new) d.now.types c (items ++ steps_of_item s.now.refs s.now.types item.now ∷ []) found.new) }
-    ensures err { IfErr result (λ e. (c : Context) (items : List ItemSteps) (types : List Assignment) → Behind (store solver.old) d.now.types c items types found.old → IsItemFault (behind_all c types items) (steps_of_item s.now.refs s.now.types item.now).steps e) }
 {
     let steps = item_steps(solver.alloc, s, item)?;
     let binders = item_binders(solver.alloc, item)?;
@@ -113,7 +97,6 @@ fn leave_item(
     binders: &[u32],
     found: &mut Found,
 ) -> Result<(), NoMemory>
-    ensures { OnOk result (Leaves (store solver.old) (store solver.new) steps.now binders.now found.old found.new) }
 {
     solver.sound();
     if found.bad.is_none() {

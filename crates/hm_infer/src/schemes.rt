@@ -1,8 +1,4 @@
 //! What an item leaves: the schemes of its names and the types of its nodes.
-ghost use Rattle.std.specs.Prelude.{◌≡◌, OnOk, nat_eq};
-ghost use Rattle.std.specs.HashMap.{get};
-ghost use Rattle.hm_terms.specs.Stores.{store};
-ghost use Rattle.hm_infer.specs.Closing.{Closes, Notes};
 
 use hm_terms::Solver;
 use ml_types::TyId;
@@ -12,7 +8,6 @@ use std::collections::HashMap;
 
 /// The names that an item binds have schemes behind it.
 pub fn close_item(solver: &mut Solver, binders: &[u32]) -> Result<(), NoMemory>
-    ensures { OnOk result (Closes (store solver.old) (store solver.new) binders.now) }
 {
     for binder in binders {
         let id = solver.unknown(Unknown::Binder(*binder))?;
@@ -27,7 +22,6 @@ pub fn note_nodes(
     steps: &[Step],
     nodes: &mut HashMap<u32, TyId>,
 ) -> Result<(), NoMemory>
-    ensures { OnOk result (Notes (store solver.now) steps.now (get nat_eq nodes.old) (get nat_eq nodes.new)) }
 {
     for step in steps {
         if let Some(node) = step.node {

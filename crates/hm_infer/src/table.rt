@@ -1,11 +1,4 @@
 //! The types that were found, as a table.
-ghost use Rattle.std.specs.Prelude.{ℕ, IfOk, nat_eq, Option};
-ghost use Rattle.std.specs.HashMap.{get};
-ghost use Rattle.ml_types.specs.Types.{Tree};
-ghost use Rattle.hm_unify.specs.Solutions.{Stands};
-ghost use Rattle.hm_terms.specs.Stores.{store};
-ghost use Rattle.hm_terms.specs.Contexts.{ShowsAny};
-ghost use Rattle.hm_infer.specs.Tables.{AreSlotsBelow, IsScheme, Fills};
 
 use hm_terms::Solver;
 use ml_types::{Scheme, TyId, TyNode, TyTable};
@@ -15,7 +8,6 @@ use std::collections::HashMap;
 
 /// The first slot above those of a table's arrows.
 pub fn slots_of(table: &TyTable) -> Result<u32, NoMemory>
-    ensures { IfOk result (AreSlotsBelow table.now.nodes) }
 {
     let mut slots = 0u32;
     for node in table.nodes.as_slice() {
@@ -29,7 +21,6 @@ pub fn slots_of(table: &TyTable) -> Result<u32, NoMemory>
 
 /// The types that were found: those of the nodes below `count`, and the schemes of the names among them.
 pub fn typed(solver: Solver, count: u32, nodes: &HashMap<u32, TyId>) -> Result<Typed, NoMemory>
-    ensures { IfOk result (λ t. (noted named : ℕ → Option Tree) → ((n : ℕ) → ShowsAny (store solver) (get nat_eq nodes.now n) (noted n)) → ((b : ℕ) → ShowsAny (store solver) ((store solver).schemes b) (named b)) → Fills noted named count t) }
 {
     let mut node = Items::new(solver.alloc);
     let mut schemes = Items::new(solver.alloc);
@@ -55,7 +46,6 @@ pub fn typed(solver: Solver, count: u32, nodes: &HashMap<u32, TyId>) -> Result<T
 /// The scheme of a type: every variable in it is generalised, in the order of first use. The type has
 /// at most 2,000 nodes.
 fn scheme_of(solver: &Solver, ty: TyId) -> Result<Scheme, NoMemory>
-    ensures { IfOk result (λ s. (w : Tree) → Stands (store solver.now).nodes (store solver.now).bound ty w → IsScheme ty w s) }
 {
     let alloc = solver.alloc;
     let mut vars = Items::new(alloc);

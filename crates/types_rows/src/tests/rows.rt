@@ -6,7 +6,9 @@ use super::printing::scheme;
 use super::repeating::repeated;
 use super::tables::Row;
 use super::tables::annotations::{ABBREVIATIONS, ANNOTATIONS};
-use super::tables::clashes::{BINDS, CHOICES, OPERATORS, PARTS, PATTERNS as WRONG_PATTERNS, WRITTEN};
+use super::tables::clashes::{
+    BINDS, CHOICES, OPERATORS, PARTS, PATTERNS as WRONG_PATTERNS, WRITTEN,
+};
 use super::tables::comparisons::{BAD, LATER, WITH_OTHERS};
 use super::tables::cycles::{ALONE, MIXED, ORDER};
 use super::tables::declared::{CONSTRUCTORS, LISTS, RECORDS};
@@ -78,6 +80,17 @@ fn check(rt: &impl Abort, alloc: Global, table: &[Row]) -> Result<(), Fail> {
         }
     }
     assert_eq!(rt; wrong.as_str(), "");
+    Ok(())
+}
+
+/// Whether each source of a table, in its short form, has types.
+pub fn check_typed(rt: &impl Abort, alloc: Global, table: &[&'static str]) -> Result<(), Fail> {
+    for short in table {
+        let file = repeated(alloc, short)?;
+        let of = inferred(alloc, file.as_str())?;
+        let found = refusal(alloc, file.as_str(), &of)?;
+        assert_eq!(rt; found.as_str(), "", "at {short:?}");
+    }
     Ok(())
 }
 

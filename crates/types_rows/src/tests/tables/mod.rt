@@ -7,6 +7,7 @@ pub mod cycles;
 pub mod declared;
 pub mod expressions;
 pub mod items;
+pub mod large;
 pub mod patterns;
 pub mod predefined;
 pub mod sizes;

@@ -1,7 +1,0 @@
-pub mod Running
-pub mod Starts
-pub mod Sizes
-pub mod Compared
-pub mod Closing
-pub mod Tables
-pub mod Answers
