@@ -1,15 +1,18 @@
 -- The steps of an item with the slots of arrows, as loops run them.
-use Rattle.std.proofs.Common.{◌≡◌, ℕ, ◌+◌, ◌<◌, ◌≤◌, List, [], ◌∷◌, ◌++◌, take, length, Some, get_or, refl, sym, ap, ◌∙◌, subst, append_assoc}
+use Rattle.std.proofs.Common.{◌≡◌, ℕ, ◌+◌, ◌<◌, ◌≤◌, List, [], ◌∷◌, ◌++◌, map, take, length, Some, get_or, refl, sym, ap, ◌∙◌, subst, append_assoc}
 use Rattle.std.specs.Prelude.{Result, Ok, Err, OnOk}
 use Rattle.std.specs.List.{slice_get}
-use Rattle.std.proofs.lemmas.List.{append-nil}
+use Rattle.std.proofs.lemmas.List.{append-nil, map-append}
 use Rattle.std.proofs.lemmas.Option.{slice_get_read}
 use Rattle.ml_types.specs.declared.node.TyId.{TyId}
 use Rattle.ml_types.specs.declared.declared.DeclInfo.{DeclInfo}
 use Rattle.ml_typing.specs.declared.equation.Unknown.{Unknown}
 use Rattle.ml_typing.specs.declared.equation.Equation.{Equation}
 use Rattle.ml_typing.specs.declared.equation.Step.{Step}
-use Rattle.ml_typing.specs.Typing.{ItemSteps}
+use Rattle.ml_tree.specs.declared.program.Item.{Item}
+use Rattle.ml_typing.specs.Terms.{Context}
+use Rattle.ml_typing.specs.Typing.{ItemSteps, behind_all}
+use Rattle.hm_terms.specs.Contexts.{IsRead}
 use Rattle.hm_unify.specs.Solutions.{Pairs}
 use Rattle.hm_unify.specs.States.{Equated}
 use Rattle.hm_unify.specs.Walks.{WalkPairs}
@@ -19,7 +22,9 @@ use Rattle.hm_terms.proofs.Growth.{grows_same, grows_then}
 use Rattle.hm_terms.proofs.Spelling.{spells_grow}
 use Rattle.hm_terms.proofs.SpellSteps.{unknown_there, take_more}
 use Rattle.hm_terms.proofs.Walking.{take_all}
-use Rattle.hm_infer.specs.Spelled.{SpellsPair, SpellsPairs, no_pair, pair_and, PushesSpelled, StepRuns, StepsRun, no_step, step_and, ItemRuns}
+use Rattle.hm_infer.specs.Spelled.{SpellsPair, SpellsPairs, no_pair, pair_and, PushesSpelled, StepRuns, StepsRun, no_step, step_and, ItemRuns, ItemsRun, no_item, item_and}
+use Rattle.hm_infer.specs.Running.{HasNoIds}
+use Rattle.hm_infer.specs.Answers.{SomeBehind}
 use Rattle.hm_infer.specs.Closing.{Leaves}
 use Rattle.hm_infer.specs.declared.items.Found.{Found}
 
@@ -123,3 +128,19 @@ item_runs decls old mid new k m n item steps others binders found more is names 
 pub on_ok_both : {A E : Type 0} (r : Result A E) (P Q : Type 0) → OnOk r P → OnOk r Q → OnOk r (P × Q)
 on_ok_both (Ok x) P Q p q = (p, q)
 on_ok_both (Err e) P Q p q = p
+
+items_push : (decls : List DeclInfo) (s : Store) (k : ℕ) (is : List ItemSteps) (a : Store) (m : ℕ) (item : ItemSteps) (b : Store) (n : ℕ) → ItemsRun decls s k is a m → ItemRuns decls a m item b n → ItemsRun decls s k (is ++ item ∷ []) b n
+items_push decls s k is a m item b n (no_item t i) one = item_and t b b i n n item [] one (no_item b n)
+items_push decls s k is a m item b n (item_and t c d i j l other others first all) one =
+    item_and t c b i j n other (others ++ item ∷ []) first (items_push decls c j others d l item b n all one)
+
+-- one item more
+pub items_next : (f : Item → ItemSteps) (decls : List DeclInfo) (c : Context) (first old new : Store) (k m n : ℕ) (items : List Item) (i : ℕ) (item : Item) (found : Found) → slice_get items i ≡ Some item → ItemsRun decls first k (map f (take i items)) old m → SomeBehind old decls c (map f (take i items)) found → ((e : Context) → IsRead old decls e → HasNoIds old → ItemRuns decls old m (f item) new n) → ItemsRun decls first k (map f (take (i + 1) items)) new n
+items_next f decls c first old new k m n items i item found at h behind runs =
+    let one = runs (behind_all c behind.0 (map f (take i items))) behind.1.read behind.1.forgotten in
+    let same : map f (take (i + 1) items) ≡ map f (take i items) ++ f item ∷ [] = ap (map f) (take_more items i item at) ∙ map-append f (take i items) (item ∷ []) in
+    subst (λ (is : List ItemSteps). ItemsRun decls first k is new n) (sym same) (items_push decls first k (map f (take i items)) old m (f item) new n h one)
+
+pub items_all : (f : Item → ItemSteps) (decls : List DeclInfo) (first old : Store) (k m : ℕ) (items others : List Item) (i : ℕ) → length items ≤ i → items ≡ others → ItemsRun decls first k (map f (take i items)) old m → ItemsRun decls first k (map f others) old m
+items_all f decls first old k m items others i h same l =
+    subst (λ (is : List Item). ItemsRun decls first k (map f is) old m) same (subst (λ (is : List Item). ItemsRun decls first k (map f is) old m) (take_all items i h) l)

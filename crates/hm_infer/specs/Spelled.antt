@@ -9,7 +9,12 @@ use Rattle.ml_typing.specs.declared.equation.Step.{Step}
 use Rattle.ml_typing.specs.Typing.{ItemSteps}
 use Rattle.hm_unify.specs.Solutions.{Pairs}
 use Rattle.hm_unify.specs.Walks.{WalkPairs}
-use Rattle.hm_terms.specs.Stores.{Store, Grows, SameNames, Forgets}
+use Rattle.ml_typing.specs.declared.typed.Typed.{Typed}
+use Rattle.ml_typing.specs.Terms.{Context}
+use Rattle.hm_unify.specs.States.{IsTableOf}
+use Rattle.hm_terms.specs.Stores.{Store, state, Grows, SameNames, Forgets}
+use Rattle.hm_terms.specs.Contexts.{IsRead}
+use Rattle.hm_infer.specs.Running.{HasNoIds}
 use Rattle.hm_terms.specs.Spelling.{Spells}
 use Rattle.hm_infer.specs.Closing.{Closes}
 
@@ -54,3 +59,20 @@ pub record ItemRuns (decls : List DeclInfo) (old : Store) (k : ℕ) (item : Item
   pub runs : StepsRun decls old k item.steps behind_steps m
   pub closes : Closes behind_steps closed item.binders
   pub forgets : Forgets closed new
+
+-- items that are run, from the first on
+pub data ItemsRun (decls : List DeclInfo) : Store → ℕ → List ItemSteps → Store → ℕ → Type 0 where
+  no_item : (s : Store) (k : ℕ) → ItemsRun decls s k [] s k
+  item_and : (s a b : Store) (k m n : ℕ) (item : ItemSteps) (items : List ItemSteps) → ItemRuns decls s k item a m → ItemsRun decls a m items b n → ItemsRun decls s k (item ∷ items) b n
+
+-- the slots of a program's types: from a solver that knows what its terms are read by, with the first
+-- slot that no arrow has, the items were run, and the table has the nodes that then stand for the ids
+pub record ProgramRuns (c : Context) (decls : List DeclInfo) (items : List ItemSteps) (typed : Typed) : Type 0 where
+  pub first : Store
+  pub first_slot : ℕ
+  pub read : IsRead first decls c
+  pub forgotten : HasNoIds first
+  pub last : Store
+  pub last_slot : ℕ
+  pub runs : ItemsRun decls first first_slot items last last_slot
+  pub table : IsTableOf (state last) typed.table.nodes
