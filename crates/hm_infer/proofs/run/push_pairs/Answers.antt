@@ -1,4 +1,3 @@
-use Rattle.std.proofs.Common.{rules}
 use Rattle.hm_terms.specs.Stores.{store}
 use Rattle.hm_infer.proofs.Lowerings.{push_none, push_next, push_all}
 use Rattle.hm_infer.proofs.Spelled.{spelled_none, spelled_next, spelled_all}
