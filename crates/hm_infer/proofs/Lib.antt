@@ -15,6 +15,7 @@ pub mod Apart
 pub mod Readings
 pub mod Agreements
 pub mod Lowerings
+pub mod Spelled
 pub mod StepRuns
 pub mod Larges
 pub mod Narrowing

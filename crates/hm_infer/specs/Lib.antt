@@ -1,4 +1,5 @@
 pub mod Running
+pub mod Spelled
 pub mod Starts
 pub mod Declaring
 pub mod Sizes

@@ -5,6 +5,8 @@ ghost use Rattle.ml_typing.specs.Terms.{Context};
 ghost use Rattle.ml_typing.specs.Typing.{Assignment, ItemSteps, behind_all, steps_of_item};
 ghost use Rattle.hm_terms.specs.Stores.{store};
 ghost use Rattle.hm_terms.specs.Contexts.{IsRead};
+ghost use Rattle.hm_infer.specs.declared.run.Outcome.TheVariants.{Holds as Went};
+ghost use Rattle.hm_infer.specs.Spelled.{StepsRun, ItemRuns};
 ghost use Rattle.hm_infer.specs.Running.{HasNoIds, Runs, Keeps};
 ghost use Rattle.hm_infer.specs.Answers.{Checked, IsItemFault, IsLimitAt, IsRefusedAt, Behind, SomeBehind};
 ghost use Rattle.hm_infer.specs.Closing.{Compared, Leaves};
@@ -52,6 +54,7 @@ impl Found {
 fn check_item(solver: &mut Solver, d: &Decls, steps: &[Step]) -> Result<(), InferErr>
     ensures ok { OnOk result ((c : Context) → IsRead (store solver.old) d.now.types c → HasNoIds (store solver.old) → Checked (store solver.new) d.now.types c steps.now) }
     ensures keeps { OnOk result ((c : Context) → IsRead (store solver.old) d.now.types c → HasNoIds (store solver.old) → Keeps (store solver.old) (store solver.new)) }
+    ensures slots { OnOk result ((c : Context) → IsRead (store solver.old) d.now.types c → HasNoIds (store solver.old) → StepsRun d.now.types (store solver.old) solver.old.slots steps.now (store solver.new) solver.new.slots) }
     ensures err { IfErr result (λ e. (c : Context) → IsRead (store solver.old) d.now.types c → HasNoIds (store solver.old) → IsItemFault c steps.now e) }
 {
     solver.sound();
@@ -64,6 +67,8 @@ fn check_item(solver: &mut Solver, d: &Decls, steps: &[Step]) -> Result<(), Infe
 fn judge(solver: &mut Solver, d: &Decls, steps: &[Step], progress: Progress) -> Result<(), InferErr>
     ensures ok { OnOk result ((c : Context) → Runs (store solver.old) d.now.types c steps.now progress → Checked (store solver.new) d.now.types c steps.now) }
     ensures same { OnOk result (store solver.new ≡ store solver.old) }
+    ensures went { OnOk result (progress.outcome ≡ Went) }
+    ensures slots { OnOk result (solver.new.slots ≡ solver.old.slots) }
     ensures err { IfErr result (λ e. (c : Context) → Runs (store solver.old) d.now.types c steps.now progress → IsItemFault c steps.now e) }
 {
     solver.sound();
@@ -127,6 +132,7 @@ pub fn infer_item(
 ) -> Result<(), InferErr>
     ensures ok { OnOk result ((c : Context) (items : List ItemSteps) (types : List Assignment) → Behind (store solver.old) d.now.types c items types found.old → SomeBehind (store solver.new) d.now.types c (items ++ steps_of_item s.now.refs s.now.types item.now ∷ []) found.new) }
     ensures err { IfErr result (λ e. (c : Context) (items : List ItemSteps) (types : List Assignment) → Behind (store solver.old) d.now.types c items types found.old → IsItemFault (behind_all c types items) (steps_of_item s.now.refs s.now.types item.now).steps e) }
+    ensures slots { OnOk result ((c : Context) → IsRead (store solver.old) d.now.types c → HasNoIds (store solver.old) → ItemRuns d.now.types (store solver.old) solver.old.slots (steps_of_item s.now.refs s.now.types item.now) (store solver.new) solver.new.slots) }
 {
     let steps = item_steps(solver.alloc, s, item)?;
     let binders = item_binders(solver.alloc, item)?;
@@ -146,7 +152,8 @@ fn leave_item(
     binders: &[u32],
     found: &mut Found,
 ) -> Result<(), NoMemory>
-    ensures { OnOk result (Leaves (store solver.old) (store solver.new) steps.now binders.now found.old found.new) }
+    ensures leaves { OnOk result (Leaves (store solver.old) (store solver.new) steps.now binders.now found.old found.new) }
+    ensures slots { OnOk result (solver.new.slots ≡ solver.old.slots) }
 {
     found.bad = first_bad(solver, steps, found.bad)?;
     note_nodes(solver, steps, &mut found.nodes)?;

@@ -3,6 +3,7 @@ ghost use Rattle.std.specs.Prelude.{IfOk, IfErr};
 ghost use Rattle.ml_types.specs.declared.node.TyId.{TyId as TyIdValue};
 ghost use Rattle.ml_types.specs.Types.{Tree};
 ghost use Rattle.ml_typing.specs.Typing.{Reads, first_context};
+ghost use Rattle.hm_infer.specs.Spelled.{ProgramRuns};
 ghost use Rattle.hm_infer.specs.Answers.{IsTypedAs, IsRefusedBy, items_of};
 
 use crate::error::InferErr;
@@ -25,6 +26,7 @@ use std::alloc::Global;
 pub fn infer(alloc: Global, s: &Scoped, d: &Decls, t: TyTable) -> Result<Typed, InferErr>
     ensures ok { IfOk result (λ typed. (declared : TyIdValue → Tree) → Reads d.now.types t.nodes declared → IsTypedAs (first_context d.now.types declared) (items_of s.now) s.now.program.nodes typed) }
     ensures err { IfErr result (λ e. (declared : TyIdValue → Tree) → Reads d.now.types t.nodes declared → IsRefusedBy (first_context d.now.types declared) (items_of s.now) e) }
+    ensures slots { IfOk result (λ typed. (declared : TyIdValue → Tree) → Reads d.now.types t.nodes declared → ProgramRuns (first_context d.now.types declared) d.now.types (items_of s.now) typed) }
 {
     let program = s.program();
     let items = program.items.as_slice();

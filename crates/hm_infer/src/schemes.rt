@@ -12,7 +12,8 @@ use std::collections::HashMap;
 
 /// The names that an item binds have schemes behind it.
 pub fn close_item(solver: &mut Solver, binders: &[u32]) -> Result<(), NoMemory>
-    ensures { OnOk result (Closes (store solver.old) (store solver.new) binders.now) }
+    ensures closes { OnOk result (Closes (store solver.old) (store solver.new) binders.now) }
+    ensures slots { OnOk result (solver.new.slots ≡ solver.old.slots) }
 {
     for binder in binders {
         let id = solver.unknown(Unknown::Binder(*binder))?;

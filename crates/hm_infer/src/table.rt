@@ -5,7 +5,8 @@ ghost use Rattle.ml_types.specs.declared.node.TyId.{TyId as TyIdValue};
 ghost use Rattle.ml_types.specs.declared.node.TyNode.TheVariants.{Arrow};
 ghost use Rattle.ml_types.specs.Types.{Tree};
 ghost use Rattle.hm_unify.specs.Solutions.{Stands};
-ghost use Rattle.hm_terms.specs.Stores.{store};
+ghost use Rattle.hm_unify.specs.States.{IsTableOf};
+ghost use Rattle.hm_terms.specs.Stores.{store, state};
 ghost use Rattle.hm_terms.specs.Contexts.{ShowsAny};
 ghost use Rattle.hm_infer.specs.Tables.{AreNoted, AreSlotsBelow, Collects, HasSeen, IsScheme, Fills, Visits, with_number};
 
@@ -44,7 +45,8 @@ fn slots_behind(slots: u32, node: &TyNode) -> Result<u32, NoMemory>
 
 /// The types that were found: those of the nodes below `count`, and the schemes of the names among them.
 pub fn typed(solver: Solver, count: u32, nodes: &HashMap<u32, TyId>) -> Result<Typed, NoMemory>
-    ensures { IfOk result (λ t. (noted named : ℕ → Option Tree) → ((n : ℕ) → ShowsAny (store solver) (get nat_eq nodes.now n) (noted n)) → ((b : ℕ) → ShowsAny (store solver) ((store solver).schemes b) (named b)) → Fills noted named count t) }
+    ensures fills { IfOk result (λ t. (noted named : ℕ → Option Tree) → ((n : ℕ) → ShowsAny (store solver) (get nat_eq nodes.now n) (noted n)) → ((b : ℕ) → ShowsAny (store solver) ((store solver).schemes b) (named b)) → Fills noted named count t) }
+    ensures table { IfOk result (λ t. IsTableOf (state (store solver)) t.table.nodes) }
 {
     let node = nodes_of(solver.alloc, count, nodes)?;
     let schemes = schemes_of(&solver, count)?;

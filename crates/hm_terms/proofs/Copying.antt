@@ -11,7 +11,7 @@ use Rattle.hm_unify.specs.States.{IsHead}
 use Rattle.hm_unify.proofs.Ends.{Ends-unique}
 use Rattle.hm_terms.specs.Stores.{Store, state, AddsNode, IsReady, Grows}
 use Rattle.hm_terms.specs.Shapes.{Holds, HoldAll, Lowers, Puts}
-use Rattle.hm_terms.specs.Copies.{Table, Copied, Copies, AreCopies, Rebuilt}
+use Rattle.hm_terms.specs.Copies.{Table, slot_of, Copied, Copies, AreCopies, Rebuilt}
 use Rattle.hm_terms.specs.declared.instances.Put.{Put}
 use Rattle.hm_terms.proofs.Growth.{longer, ends_grow, ends_within, node_old, length_longer, grows_same}
 use Rattle.hm_terms.proofs.Holding.{grows_node, node_holds, node_lowers, holds_grows}
@@ -80,11 +80,11 @@ hold_copies first s f copies k ps (q ∷ qs) ws (more x ys w us one all) are =
 pub copies_node : (old new : Store) (put : Put) (copies later : Table) (id x : TyId) → Rebuilt old new copies id x → ((q : ℕ) → later q ≡ cond (nat_eq id.0 q) (Some x) (copies q)) → Copies old new put copies later
 copies_node old new put copies later id x b update = λ first f r g puts k. answer first f r g puts k
   where
-    grows_by : ((new ≡ old) × (x ≡ id) × (parts_of b.node ≡ b.others)) ⊎ ((m : TyNode) × (head_of m ≡ Some b.head) × (parts_of m ≡ b.others) × AddsNode old new m x) → Grows old new
+    grows_by : ((new ≡ old) × (x ≡ id) × (parts_of b.node ≡ b.others)) ⊎ ((m : TyNode) × (head_of m ≡ Some b.head) × (parts_of m ≡ b.others) × AddsNode old new m x × (slot_of m ≡ slot_of b.node)) → Grows old new
     grows_by (inl same) = subst (Grows old) (sym same.0) (grows_same old)
     grows_by (inr made) = grows_node old new made.0 b.head x made.3 made.1
 
-    holds_by : IsReady old → id.0 < length old.nodes → (hs : List Shape) → HoldAll old hs b.others → ((new ≡ old) × (x ≡ id) × (parts_of b.node ≡ b.others)) ⊎ ((m : TyNode) × (head_of m ≡ Some b.head) × (parts_of m ≡ b.others) × AddsNode old new m x) → Holds new (Make b.head (shapes hs)) x
+    holds_by : IsReady old → id.0 < length old.nodes → (hs : List Shape) → HoldAll old hs b.others → ((new ≡ old) × (x ≡ id) × (parts_of b.node ≡ b.others)) ⊎ ((m : TyNode) × (head_of m ≡ Some b.head) × (parts_of m ≡ b.others) × AddsNode old new m x × (slot_of m ≡ slot_of b.node)) → Holds new (Make b.head (shapes hs)) x
     holds_by r within hs all (inl same) =
         let here = node_holds old b.node b.head id b.is_head.0 within b.is_head.1 b.is_head.2 b.has_head hs (subst (HoldAll old hs) (sym same.2) all) in
         let at_new : Holds new (Make b.head (shapes hs)) id = subst (λ s. Holds s (Make b.head (shapes hs)) id) (sym same.0) here in

@@ -209,7 +209,7 @@ hold_own s (h ∷ hs) [] k i p e = absurd k
 hold_own s (h ∷ hs) (x ∷ xs) k zero p e = let q : x ≡ p = cc in subst (IsOwn s) q k.0.own
 hold_own s (h ∷ hs) (x ∷ xs) k (suc i) p e = hold_own s hs xs k.1 i p e
 
-headed_free : (s : Store) (x : TyId) (n : TyNode) (h : Head) → node_at s.nodes x ≡ Some n → head_of n ≡ Some h → link s.nodes s.bound x ≡ None
+pub headed_free : (s : Store) (x : TyId) (n : TyNode) (h : Head) → node_at s.nodes x ≡ Some n → head_of n ≡ Some h → link s.nodes s.bound x ≡ None
 headed_free s x n h at head = ap (λ (o : Option TyNode). option_and_then (λ i. get_or s.bound i None) (option_and_then variable_of o)) at ∙ free_by n head
   where
     free_by : (m : TyNode) → head_of m ≡ Some h → option_and_then (λ i. get_or s.bound i None) (variable_of m) ≡ None

@@ -5,9 +5,12 @@ pub mod Holding
 pub mod Putting
 pub mod Copying
 pub mod Rebuilding
+pub mod Slots
+pub mod Spelling
 pub mod Building
 pub mod Contexts
 pub mod Layers
 pub mod Walking
 pub mod Terms
+pub mod SpellSteps
 pub mod Tables

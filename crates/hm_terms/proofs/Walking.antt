@@ -16,7 +16,7 @@ use Rattle.hm_terms.proofs.Holding.{holds_grows, hold_length}
 use Rattle.hm_terms.proofs.Building.{lowers_more, lowers_then, arrow_lowers}
 use Rattle.hm_terms.proofs.Contexts.{read_grows}
 
-take_suc : {A : Type 0} (xs : List A) (n : ℕ) (x : A) → slice_get xs n ≡ Some x → take (suc n) xs ≡ take n xs ++ x ∷ []
+pub take_suc : {A : Type 0} (xs : List A) (n : ℕ) (x : A) → slice_get xs n ≡ Some x → take (suc n) xs ≡ take n xs ++ x ∷ []
 take_suc [] n x e = absurd (let q : None ≡ Some x = e in cc)
 take_suc (y ∷ xs) zero x e = let q : y ≡ x = cc in ap (λ z. z ∷ []) q
 take_suc (y ∷ xs) (suc n) x e = ap (λ zs. y ∷ zs) (take_suc xs n x e)
@@ -31,11 +31,11 @@ take_all [] (suc n) h = refl
 take_all (x ∷ xs) zero h = absurd (omega arith)
 take_all (x ∷ xs) (suc n) h = ap (λ zs. x ∷ zs) (take_all xs n (omega arith))
 
-mapped : {A B : Type 0} (f : A → B) (o : Option A) (y : B) → option_map f o ≡ Some y → (x : A) × (o ≡ Some x) × (f x ≡ y)
+pub mapped : {A B : Type 0} (f : A → B) (o : Option A) (y : B) → option_map f o ≡ Some y → (x : A) × (o ≡ Some x) × (f x ≡ y)
 mapped f None y e = absurd (let q : None ≡ Some y = e in cc)
 mapped f (Some x) y e = (x, refl, cc)
 
-abbrev ty_at : List ArgInfo → ℕ → TyId → Type 0
+abbrev pub ty_at : List ArgInfo → ℕ → TyId → Type 0
 ty_at args n ty = Some ty ≡ option_map (λ (a : ArgInfo). a.ty) (slice_get args n)
 
 -- one field more

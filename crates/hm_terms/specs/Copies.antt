@@ -1,7 +1,8 @@
 -- What the walk of a type that makes an instance of it has copied.
-use Rattle.std.specs.Prelude.{◌≡◌, ◌⊎◌, ℕ, List, map, Option, Some}
+use Rattle.std.specs.Prelude.{◌≡◌, ◌⊎◌, ℕ, List, map, Option, Some, None}
 use Rattle.ml_types.specs.declared.node.TyId.{TyId}
 use Rattle.ml_types.specs.declared.node.TyNode.{TyNode}
+use Rattle.ml_types.specs.declared.node.TyNode.TheVariants.{Var, Con, Tuple, Arrow}
 use Rattle.ml_types.specs.Types.{Head, head_of, parts_of, Tree}
 use Rattle.ml_typing.specs.Terms.{Shape, with_shapes}
 use Rattle.hm_unify.specs.Solutions.{Stands}
@@ -22,6 +23,13 @@ Copied first s f copies = (k : ℕ) (y : TyId) → copies k ≡ Some y → (w : 
 abbrev pub Copies : Store → Store → Put → Table → Table → Type 0
 Copies old new put copies more = (first : Store) (f : ℕ → Shape) → IsReady first → Grows first old → Puts first put f → Copied first old f copies → Grows old new × Copied first new f more
 
+-- the slot of an arrow
+abbrev pub slot_of : TyNode → Option ℕ
+slot_of (Var n) = None
+slot_of (Con d args) = None
+slot_of (Tuple parts) = None
+slot_of (Arrow slot from to) = Some slot
+
 -- the copy of each part
 abbrev pub AreCopies : Table → List TyId → List TyId → Type 0
 AreCopies copies parts others = map (λ (p : TyId). copies p.0) parts ≡ map Some others
@@ -34,4 +42,4 @@ pub record Rebuilt (old new : Store) (copies : Table) (id x : TyId) : Type 0 whe
   pub has_head : head_of node ≡ Some head
   pub others : List TyId
   pub copied : AreCopies copies (parts_of node) others
-  pub made : ((new ≡ old) × (x ≡ id) × (parts_of node ≡ others)) ⊎ ((m : TyNode) × (head_of m ≡ Some head) × (parts_of m ≡ others) × AddsNode old new m x)
+  pub made : ((new ≡ old) × (x ≡ id) × (parts_of node ≡ others)) ⊎ ((m : TyNode) × (head_of m ≡ Some head) × (parts_of m ≡ others) × AddsNode old new m x × (slot_of m ≡ slot_of node))

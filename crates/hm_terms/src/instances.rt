@@ -9,6 +9,7 @@ ghost use Rattle.hm_unify.specs.States.{IsHead};
 ghost use Rattle.hm_terms.specs.Stores.{store, state, IsReady};
 ghost use Rattle.hm_terms.specs.Shapes.{Lowers, Puts};
 ghost use Rattle.hm_terms.specs.Copies.{AreCopies, Copies, Rebuilt};
+ghost use Rattle.hm_terms.specs.Slots.{places, MakesCopy, MakesPut, StepKeeps};
 
 use crate::nodes::part;
 use crate::solver::Solver;
@@ -29,7 +30,9 @@ pub enum Put<'a> {
 
 /// The type that is put for a variable.
 fn type_for(solver: &mut Solver, put: Put, number: u32) -> Result<TyId, NoMemory>
-    ensures { IfOk result (λ x. (f : ℕ → Shape) → IsReady (store solver.old) → Puts (store solver.old) put.entry f → Lowers (store solver.old) (store solver.new) (f number) x) }
+    ensures lowers { IfOk result (λ x. (f : ℕ → Shape) → IsReady (store solver.old) → Puts (store solver.old) put.entry f → Lowers (store solver.old) (store solver.new) (f number) x) }
+    ensures puts { IfOk result (λ x. MakesPut (store solver.old) (store solver.new) (places put.entry) number x) }
+    ensures slots { solver.new.slots ≡ solver.old.slots }
 {
     match put {
         Put::Fresh(node) => solver.unknown(Unknown::Fresh(node, number)),
@@ -57,7 +60,9 @@ struct Frame {
 /// The type of `root` with other types for its variables. The walk has a stack of its own, since
 /// types can be as deep as the declarations are long.
 pub fn instance(solver: &mut Solver, root: TyId, put: Put) -> Result<TyId, NoMemory>
-    ensures { IfOk result (λ x. (f : ℕ → Shape) (w : Tree) → IsReady (store solver.old) → Puts (store solver.old) put.entry f → Stands (store solver.old).nodes (store solver.old).bound root w → Lowers (store solver.old) (store solver.new) (with_shapes f w) x) }
+    ensures lowers { IfOk result (λ x. (f : ℕ → Shape) (w : Tree) → IsReady (store solver.old) → Puts (store solver.old) put.entry f → Stands (store solver.old).nodes (store solver.old).bound root w → Lowers (store solver.old) (store solver.new) (with_shapes f w) x) }
+    ensures copies { IfOk result (λ x. IsReady (store solver.old) → MakesCopy (store solver.old) (store solver.new) (places put.entry) root x) }
+    ensures slots { solver.new.slots ≡ solver.old.slots }
 {
     let alloc = solver.alloc;
     let mut copies: HashMap<u32, TyId> = HashMap::new(alloc);
@@ -81,7 +86,9 @@ fn visit(
     stack: &mut Vec<Frame>,
     frame: Frame,
 ) -> Result<(), NoMemory>
-    ensures { OnOk result (Copies (store solver.old) (store solver.new) put.entry (get nat_eq copies.old) (get nat_eq copies.new)) }
+    ensures copies { OnOk result (Copies (store solver.old) (store solver.new) put.entry (get nat_eq copies.old) (get nat_eq copies.new)) }
+    ensures keeps { OnOk result (IsReady (store solver.old) → StepKeeps (store solver.old) (store solver.new) (places put.entry) (get nat_eq copies.old) (get nat_eq copies.new)) }
+    ensures slots { solver.new.slots ≡ solver.old.slots }
 {
     let Frame { id, next } = frame;
     let Some(node) = solver.head(id) else {
@@ -112,7 +119,9 @@ fn copy_variable(
     id: TyId,
     number: u32,
 ) -> Result<(), NoMemory>
-    ensures { OnOk result (IsHead (state (store solver.old)) id (Var number) → Copies (store solver.old) (store solver.new) put.entry (get nat_eq copies.old) (get nat_eq copies.new)) }
+    ensures copies { OnOk result (IsHead (state (store solver.old)) id (Var number) → Copies (store solver.old) (store solver.new) put.entry (get nat_eq copies.old) (get nat_eq copies.new)) }
+    ensures keeps { OnOk result (IsHead (state (store solver.old)) id (Var number) → IsReady (store solver.old) → StepKeeps (store solver.old) (store solver.new) (places put.entry) (get nat_eq copies.old) (get nat_eq copies.new)) }
+    ensures slots { solver.new.slots ≡ solver.old.slots }
 {
     let copy = type_for(solver, put, number)?;
     copies.insert(id.0, copy)?;
@@ -126,7 +135,9 @@ fn copy_node(
     copies: &mut HashMap<u32, TyId>,
     id: TyId,
 ) -> Result<(), NoMemory>
-    ensures { OnOk result (Copies (store solver.old) (store solver.new) put.entry (get nat_eq copies.old) (get nat_eq copies.new)) }
+    ensures copies { OnOk result (Copies (store solver.old) (store solver.new) put.entry (get nat_eq copies.old) (get nat_eq copies.new)) }
+    ensures keeps { OnOk result (IsReady (store solver.old) → StepKeeps (store solver.old) (store solver.new) (places put.entry) (get nat_eq copies.old) (get nat_eq copies.new)) }
+    ensures slots { solver.new.slots ≡ solver.old.slots }
 {
     let copy = rebuilt(solver, copies, id)?;
     copies.insert(id.0, copy)?;
@@ -135,7 +146,8 @@ fn copy_node(
 
 /// A node with the copies of its parts: the node itself where these are its parts.
 fn rebuilt(solver: &mut Solver, copies: &HashMap<u32, TyId>, id: TyId) -> Result<TyId, NoMemory>
-    ensures { IfOk result (λ x. Rebuilt (store solver.old) (store solver.new) (get nat_eq copies.now) id x) }
+    ensures rebuilt { IfOk result (λ x. Rebuilt (store solver.old) (store solver.new) (get nat_eq copies.now) id x) }
+    ensures slots { solver.new.slots ≡ solver.old.slots }
 {
     let alloc = solver.alloc;
     let Some(node) = solver.head(id) else {

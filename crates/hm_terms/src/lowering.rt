@@ -1,14 +1,16 @@
 //! Terms of equations as types of the bindings.
-ghost use Rattle.std.specs.Prelude.{◌≡◌, ◌+◌, ◌-◌, ◌<◌, IfOk, IfSome, IsNone, Some, List, [], ◌∷◌, length, map, option_map, slice_get};
+ghost use Rattle.std.specs.Prelude.{◌≡◌, ◌+◌, ◌-◌, ◌<◌, IfOk, OnOk, IfSome, IsNone, Some, List, [], ◌∷◌, length, map, option_map, slice_get};
 ghost use Rattle.ml_types.specs.declared.declared.ArgInfo.{ArgInfo as ArgValue};
 ghost use Rattle.ml_types.specs.declared.declared.DeclInfo.{DeclInfo as DeclValue};
 ghost use Rattle.ml_typing.specs.Terms.{Shape, Context, shape_of, top, made, argument, field, named, function, at_fresh, cons_of, fields_of, product, no_shape, fresh_from};
 ghost use Rattle.ml_typing.specs.Typing.{alias_of};
 ghost use Rattle.ml_types.specs.Types.{Tree};
 ghost use Rattle.hm_unify.specs.Solutions.{Stands};
-ghost use Rattle.hm_terms.specs.Stores.{store, IsReady};
+ghost use Rattle.hm_terms.specs.Stores.{store, Grows, IsReady};
 ghost use Rattle.hm_terms.specs.Shapes.{Lowers, LowersAll, Holds, HoldAll};
 ghost use Rattle.hm_terms.specs.Contexts.{IsRead, vars_of};
+ghost use Rattle.hm_terms.specs.Slots.{at_fresh_of, IsNothing, MakesCopy};
+ghost use Rattle.hm_terms.specs.Spelling.{IsAtFresh, IsTop, IsOperation, AreFresh, IsMade, AreAtFresh, IsProduct, IsWhole, IsArgument, IsField, IsNamed, Arrows, Spells, SpellAll};
 
 use crate::instances::{Put, instance};
 use crate::solver::Solver;
@@ -21,7 +23,8 @@ use sqlite_items::at;
 /// The type of a term.
 #[cycle(terms)]
 pub fn type_of(solver: &mut Solver, d: &Decls, term: &Term) -> Result<TyId, NoMemory>
-    ensures { IfOk result (λ x. (c : Context) → IsRead (store solver.old) d.now.types c → Lowers (store solver.old) (store solver.new) (shape_of c term.now) x) }
+    ensures lowers { IfOk result (λ x. (c : Context) → IsRead (store solver.old) d.now.types c → Lowers (store solver.old) (store solver.new) (shape_of c term.now) x) }
+    ensures spells { IfOk result (λ x. IsReady (store solver.old) → Grows (store solver.old) (store solver.new) × Spells (store solver.new) d.now.types solver.old.slots term.now solver.new.slots x) }
 {
     match term {
         Term::Of(unknown) => solver.unknown(*unknown),
@@ -49,7 +52,8 @@ pub fn type_of(solver: &mut Solver, d: &Decls, term: &Term) -> Result<TyId, NoMe
 /// The types of terms.
 #[cycle(terms)]
 fn types_of(solver: &mut Solver, d: &Decls, terms: &[Term]) -> Result<Items<TyId>, NoMemory>
-    ensures { IfOk result (λ xs. (c : Context) → IsRead (store solver.old) d.now.types c → LowersAll (store solver.old) (store solver.new) (map (shape_of c) terms.now) xs) }
+    ensures lowers { IfOk result (λ xs. (c : Context) → IsRead (store solver.old) d.now.types c → LowersAll (store solver.old) (store solver.new) (map (shape_of c) terms.now) xs) }
+    ensures spells { IfOk result (λ xs. IsReady (store solver.old) → Grows (store solver.old) (store solver.new) × SpellAll (store solver.new) d.now.types solver.old.slots terms.now solver.new.slots xs) }
 {
     let mut ids = Items::new(solver.alloc);
     for term in terms {
@@ -61,7 +65,9 @@ fn types_of(solver: &mut Solver, d: &Decls, terms: &[Term]) -> Result<Items<TyId
 
 /// A type at the fresh types of a node.
 fn fresh_instance(solver: &mut Solver, id: TyId, node: u32) -> Result<TyId, NoMemory>
-    ensures { IfOk result (λ x. (w : Tree) → IsReady (store solver.old) → Stands (store solver.old).nodes (store solver.old).bound id w → Lowers (store solver.old) (store solver.new) (at_fresh node w) x) }
+    ensures lowers { IfOk result (λ x. (w : Tree) → IsReady (store solver.old) → Stands (store solver.old).nodes (store solver.old).bound id w → Lowers (store solver.old) (store solver.new) (at_fresh node w) x) }
+    ensures copies { IfOk result (λ x. IsReady (store solver.old) → MakesCopy (store solver.old) (store solver.new) (at_fresh_of node) id x) }
+    ensures slots { OnOk result (solver.new.slots ≡ solver.old.slots) }
 {
     instance(solver, id, Put::Fresh(node))
 }
@@ -75,7 +81,9 @@ fn declared_type(solver: &Solver, ty: TyId) -> Result<TyId, NoMemory>
 
 /// A declared type at the fresh types of a node.
 fn declared_instance(solver: &mut Solver, ty: TyId, node: u32) -> Result<TyId, NoMemory>
-    ensures { IfOk result (λ x. (decls : List DeclValue) (c : Context) → IsRead (store solver.old) decls c → Lowers (store solver.old) (store solver.new) (at_fresh node (c.declared ty)) x) }
+    ensures lowers { IfOk result (λ x. (decls : List DeclValue) (c : Context) → IsRead (store solver.old) decls c → Lowers (store solver.old) (store solver.new) (at_fresh node (c.declared ty)) x) }
+    ensures copies { IfOk result (λ x. IsReady (store solver.old) → Grows (store solver.old) (store solver.new) × IsAtFresh (store solver.new) node ((store solver.new).declared ty.0) x) }
+    ensures slots { OnOk result (solver.new.slots ≡ solver.old.slots) }
 {
     let expanded = declared_type(solver, ty)?;
     fresh_instance(solver, expanded, node)
@@ -83,7 +91,9 @@ fn declared_instance(solver: &mut Solver, ty: TyId, node: u32) -> Result<TyId, N
 
 /// The type of a top-level name at a use.
 fn top_type(solver: &mut Solver, d: &Decls, binder: u32, node: u32) -> Result<TyId, NoMemory>
-    ensures { IfOk result (λ x. (c : Context) → IsRead (store solver.old) d.now.types c → Lowers (store solver.old) (store solver.new) (top (c.scheme binder) binder node) x) }
+    ensures lowers { IfOk result (λ x. (c : Context) → IsRead (store solver.old) d.now.types c → Lowers (store solver.old) (store solver.new) (top (c.scheme binder) binder node) x) }
+    ensures copies { IfOk result (λ x. IsReady (store solver.old) → Grows (store solver.old) (store solver.new) × IsTop (store solver.new) binder node x) }
+    ensures slots { OnOk result (solver.new.slots ≡ solver.old.slots) }
 {
     match solver.scheme(binder) {
         Some(id) => fresh_instance(solver, id, node),
@@ -93,7 +103,9 @@ fn top_type(solver: &mut Solver, d: &Decls, binder: u32, node: u32) -> Result<Ty
 
 /// The type of an operation at the fresh types of a node.
 fn operation_type(solver: &mut Solver, d: &Decls, op: Op, node: u32) -> Result<TyId, NoMemory>
-    ensures { IfOk result (λ x. (c : Context) → IsRead (store solver.old) d.now.types c → Lowers (store solver.old) (store solver.new) (at_fresh node (c.operation op)) x) }
+    ensures lowers { IfOk result (λ x. (c : Context) → IsRead (store solver.old) d.now.types c → Lowers (store solver.old) (store solver.new) (at_fresh node (c.operation op)) x) }
+    ensures copies { IfOk result (λ x. IsReady (store solver.old) → Grows (store solver.old) (store solver.new) × IsOperation (store solver.new) op node x) }
+    ensures slots { OnOk result (solver.new.slots ≡ solver.old.slots) }
 {
     match solver.operation(op) {
         Some(id) => fresh_instance(solver, id, node),
@@ -120,7 +132,9 @@ fn variables(d: &Decls, decl: u32) -> u32
 
 /// A declaration at the fresh types of a node.
 fn made_type(solver: &mut Solver, d: &Decls, decl: u32, node: u32) -> Result<TyId, NoMemory>
-    ensures { IfOk result (λ x. IsReady (store solver.old) → Lowers (store solver.old) (store solver.new) (made decl node (slice_get d.now.types decl)) x) }
+    ensures lowers { IfOk result (λ x. IsReady (store solver.old) → Lowers (store solver.old) (store solver.new) (made decl node (slice_get d.now.types decl)) x) }
+    ensures makes { IfOk result (λ x. Grows (store solver.old) (store solver.new) × IsMade (store solver.new) decl node (vars_of (slice_get d.now.types decl)) x) }
+    ensures slots { OnOk result (solver.new.slots ≡ solver.old.slots) }
 {
     let ids = fresh_types(solver, node, variables(d, decl))?;
     solver.add(TyNode::Con(decl, ids))
@@ -128,7 +142,9 @@ fn made_type(solver: &mut Solver, d: &Decls, decl: u32, node: u32) -> Result<TyI
 
 /// The first fresh types of a node.
 fn fresh_types(solver: &mut Solver, node: u32, count: u32) -> Result<Items<TyId>, NoMemory>
-    ensures { IfOk result (λ xs. IsReady (store solver.old) → LowersAll (store solver.old) (store solver.new) (fresh_from node count 0) xs) }
+    ensures lowers { IfOk result (λ xs. IsReady (store solver.old) → LowersAll (store solver.old) (store solver.new) (fresh_from node count 0) xs) }
+    ensures fresh { IfOk result (λ xs. Grows (store solver.old) (store solver.new) × AreFresh (store solver.new) node count xs) }
+    ensures slots { OnOk result (solver.new.slots ≡ solver.old.slots) }
 {
     let mut ids = Items::new(solver.alloc);
     for number in 0..count {
@@ -166,7 +182,9 @@ fn argument_type(
     con: u32,
     node: u32,
 ) -> Result<TyId, NoMemory>
-    ensures { IfOk result (λ x. (c : Context) → IsRead (store solver.old) d.now.types c → Lowers (store solver.old) (store solver.new) (argument c.declared node (slice_get (cons_of (slice_get d.now.types decl)) con)) x) }
+    ensures lowers { IfOk result (λ x. (c : Context) → IsRead (store solver.old) d.now.types c → Lowers (store solver.old) (store solver.new) (argument c.declared node (slice_get (cons_of (slice_get d.now.types decl)) con)) x) }
+    ensures copies { IfOk result (λ x. IsReady (store solver.old) → Grows (store solver.old) (store solver.new) × IsArgument (store solver.new) node (slice_get (cons_of (slice_get d.now.types decl)) con) x) }
+    ensures slots { OnOk result (solver.new.slots ≡ solver.old.slots) }
 {
     match constructor(d, decl, con) {
         Some(info) => whole_argument(solver, info.args.as_slice(), node),
@@ -176,7 +194,9 @@ fn argument_type(
 
 /// The product of a constructor's fields at the fresh types of a node, or the one field's type.
 fn whole_argument(solver: &mut Solver, args: &[ArgInfo], node: u32) -> Result<TyId, NoMemory>
-    ensures { IfOk result (λ x. (decls : List DeclValue) (c : Context) → IsRead (store solver.old) decls c → Lowers (store solver.old) (store solver.new) (product (map (λ (a : ArgValue). at_fresh node (c.declared a.ty)) args.now)) x) }
+    ensures lowers { IfOk result (λ x. (decls : List DeclValue) (c : Context) → IsRead (store solver.old) decls c → Lowers (store solver.old) (store solver.new) (product (map (λ (a : ArgValue). at_fresh node (c.declared a.ty)) args.now)) x) }
+    ensures copies { IfOk result (λ x. IsReady (store solver.old) → Grows (store solver.old) (store solver.new) × IsWhole (store solver.new) node args.now x) }
+    ensures slots { OnOk result (solver.new.slots ≡ solver.old.slots) }
 {
     let ids = argument_types(solver, args, node)?;
     product_type(solver, ids)
@@ -184,7 +204,9 @@ fn whole_argument(solver: &mut Solver, args: &[ArgInfo], node: u32) -> Result<Ty
 
 /// The types of a constructor's fields at the fresh types of a node.
 fn argument_types(solver: &mut Solver, args: &[ArgInfo], node: u32) -> Result<Items<TyId>, NoMemory>
-    ensures { IfOk result (λ xs. (decls : List DeclValue) (c : Context) → IsRead (store solver.old) decls c → LowersAll (store solver.old) (store solver.new) (map (λ (a : ArgValue). at_fresh node (c.declared a.ty)) args.now) xs) }
+    ensures lowers { IfOk result (λ xs. (decls : List DeclValue) (c : Context) → IsRead (store solver.old) decls c → LowersAll (store solver.old) (store solver.new) (map (λ (a : ArgValue). at_fresh node (c.declared a.ty)) args.now) xs) }
+    ensures copies { IfOk result (λ xs. IsReady (store solver.old) → Grows (store solver.old) (store solver.new) × AreAtFresh (store solver.new) node args.now xs) }
+    ensures slots { OnOk result (solver.new.slots ≡ solver.old.slots) }
 {
     let mut ids = Items::new(solver.alloc);
     for number in 0..args.len() {
@@ -209,7 +231,9 @@ fn argument_at(args: &[ArgInfo], number: usize) -> Option<TyId>
 
 /// The product of several types, or the one type.
 fn product_type(solver: &mut Solver, ids: Items<TyId>) -> Result<TyId, NoMemory>
-    ensures { IfOk result (λ x. (hs : List Shape) → IsReady (store solver.old) → HoldAll (store solver.old) hs ids → Lowers (store solver.old) (store solver.new) (product hs) x) }
+    ensures lowers { IfOk result (λ x. (hs : List Shape) → IsReady (store solver.old) → HoldAll (store solver.old) hs ids → Lowers (store solver.old) (store solver.new) (product hs) x) }
+    ensures makes { IfOk result (λ x. Grows (store solver.old) (store solver.new) × IsProduct (store solver.new) ids x) }
+    ensures slots { OnOk result (solver.new.slots ≡ solver.old.slots) }
 {
     match only(ids.as_slice()) {
         Some(id) => Ok(id),
@@ -227,7 +251,9 @@ fn only(ids: &[TyId]) -> Option<TyId>
 
 /// The empty product, for what is not there.
 fn nothing(solver: &mut Solver) -> Result<TyId, NoMemory>
-    ensures { IfOk result (λ x. IsReady (store solver.old) → Lowers (store solver.old) (store solver.new) no_shape x) }
+    ensures lowers { IfOk result (λ x. IsReady (store solver.old) → Lowers (store solver.old) (store solver.new) no_shape x) }
+    ensures makes { IfOk result (λ x. Grows (store solver.old) (store solver.new) × IsNothing (store solver.new) x) }
+    ensures slots { OnOk result (solver.new.slots ≡ solver.old.slots) }
 {
     solver.nothing()
 }
@@ -240,7 +266,9 @@ fn field_type(
     number: u32,
     node: u32,
 ) -> Result<TyId, NoMemory>
-    ensures { IfOk result (λ x. (c : Context) → IsRead (store solver.old) d.now.types c → Lowers (store solver.old) (store solver.new) (field c.declared node (slice_get (fields_of (slice_get d.now.types decl)) number)) x) }
+    ensures lowers { IfOk result (λ x. (c : Context) → IsRead (store solver.old) d.now.types c → Lowers (store solver.old) (store solver.new) (field c.declared node (slice_get (fields_of (slice_get d.now.types decl)) number)) x) }
+    ensures copies { IfOk result (λ x. IsReady (store solver.old) → Grows (store solver.old) (store solver.new) × IsField (store solver.new) node (slice_get (fields_of (slice_get d.now.types decl)) number) x) }
+    ensures slots { OnOk result (solver.new.slots ≡ solver.old.slots) }
 {
     match field_at(d, decl, number) {
         Some(info) => declared_instance(solver, info.arg.ty, node),
@@ -265,7 +293,9 @@ fn named_type(
     decl: u32,
     args: Items<TyId>,
 ) -> Result<TyId, NoMemory>
-    ensures { IfOk result (λ x. (c : Context) (hs : List Shape) → IsRead (store solver.old) d.now.types c → HoldAll (store solver.old) hs args → Lowers (store solver.old) (store solver.new) (named c.declared decl hs (slice_get d.now.types decl)) x) }
+    ensures lowers { IfOk result (λ x. (c : Context) (hs : List Shape) → IsRead (store solver.old) d.now.types c → HoldAll (store solver.old) hs args → Lowers (store solver.old) (store solver.new) (named c.declared decl hs (slice_get d.now.types decl)) x) }
+    ensures makes { IfOk result (λ x. IsReady (store solver.old) → Grows (store solver.old) (store solver.new) × IsNamed (store solver.new) decl (alias_of (slice_get d.now.types decl)) args x) }
+    ensures slots { OnOk result (solver.new.slots ≡ solver.old.slots) }
 {
     match abbreviated(d, decl) {
         None => solver.add(TyNode::Con(decl, args)),
@@ -278,7 +308,8 @@ fn named_type(
 
 /// Arrows from parameters to a result, each with a slot of its own.
 fn function_type(solver: &mut Solver, params: &[TyId], last: TyId) -> Result<TyId, NoMemory>
-    ensures { IfOk result (λ x. (hs : List Shape) (r : Shape) → IsReady (store solver.old) → HoldAll (store solver.old) hs params.now → Holds (store solver.old) r last → Lowers (store solver.old) (store solver.new) (function hs r) x) }
+    ensures lowers { IfOk result (λ x. (hs : List Shape) (r : Shape) → IsReady (store solver.old) → HoldAll (store solver.old) hs params.now → Holds (store solver.old) r last → Lowers (store solver.old) (store solver.new) (function hs r) x) }
+    ensures arrows { IfOk result (λ x. Grows (store solver.old) (store solver.new) × Arrows (store solver.new) solver.old.slots params.now last solver.new.slots x) }
 {
     let mut to = last;
     for done in 0..params.len() {

@@ -75,7 +75,8 @@ impl Solver {
 
     /// The empty product.
     pub fn nothing(&mut self) -> Result<TyId, NoMemory>
-        ensures { IfOk result (λ id. AddsNode (store self.old) (store self.new) (Tuple []) id) }
+        ensures adds { IfOk result (λ id. AddsNode (store self.old) (store self.new) (Tuple []) id) }
+        ensures slots { self.new.slots ≡ self.old.slots }
     {
         let none = Items::new(self.alloc);
         self.add(TyNode::Tuple(none))
@@ -103,7 +104,8 @@ impl Solver {
 
     /// The type of an unknown of the item, a new variable where it had none.
     pub fn unknown(&mut self, unknown: Unknown) -> Result<TyId, NoMemory>
-        ensures { IfOk result (λ id. Knows (store self.old) (store self.new) unknown id) }
+        ensures knows { IfOk result (λ id. Knows (store self.old) (store self.new) unknown id) }
+        ensures slots { self.new.slots ≡ self.old.slots }
     {
         if let Some(id) = self.ids.find(unknown) {
             return Ok(id);
