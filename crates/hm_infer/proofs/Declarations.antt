@@ -131,15 +131,11 @@ found_built decls nodes old new ty node o at is f declared r =
 
 -- ---- all types
 
-no_bound : (m : Bound) → length m ≡ 0 → (n : ℕ) → get_or m n None ≡ None
-no_bound [] e n = refl
-no_bound (b ∷ m) e n = absurd (omega arith)
-
 bare_ready : (s : Store) → IsBare s → IsReady s
 bare_ready s b = record {
   closed = record {
     parts_in = λ x n i p at q. absurd (let e : None ≡ Some n = ap (λ (ns : List TyNode). node_at ns x) (sym b.nodes) ∙ at in cc);
-    targets_in = λ n y e. absurd (let q : None ≡ Some y = sym (no_bound s.bound b.bound n) ∙ e in cc);
+    targets_in = λ n y e. absurd (let q : None ≡ Some y = sym (b.bound n) ∙ e in cc);
   };
   mark_within = omega (arith, b.mark);
   within = λ u x p. absurd (let q : None ≡ Some x = sym (b.ids u) ∙ p in cc);
@@ -149,7 +145,7 @@ bare_ready s b = record {
 bare_expanded : (s : Store) (declared : TyId → Tree) → IsBare s → AreExpanded s s declared
 bare_expanded s declared b = record {
   ready = bare_ready s b;
-  free = no_bound s.bound b.bound;
+  free = b.bound;
   each = λ x y p. absurd (let q : None ≡ Some y = sym (b.declared x.0) ∙ p in cc);
   schemes = λ n. refl;
   operations = refl;

@@ -204,7 +204,7 @@ operation_at Failwith = refl
 pub new_bare : (table : List TyNode) (s : Store) → table ≡ [] → IsNew table (state s) → s.mark ≡ length table → ((u : Unknown) → s.ids u ≡ None) → ((b : ℕ) → s.schemes b ≡ None) → s.operations ≡ [] → ((n : ℕ) → s.declared n ≡ None) → IsBare s
 new_bare table s e n mark ids schemes operations declared = record {
   nodes = n.nodes ∙ e;
-  bound = n.first e;
+  bound = n.free;
   ids = ids;
   schemes = schemes;
   operations = operations;

@@ -17,7 +17,7 @@ use Rattle.hm_terms.specs.Shapes.{Holds}
 -- a solver without nodes
 pub record IsBare (s : Store) : Type 0 where
   pub nodes : s.nodes ≡ []
-  pub bound : length s.bound ≡ 0
+  pub bound : (n : ℕ) → slice_index_or s.bound n None ≡ None
   pub ids : (u : Unknown) → s.ids u ≡ None
   pub schemes : (b : ℕ) → s.schemes b ≡ None
   pub operations : s.operations ≡ []

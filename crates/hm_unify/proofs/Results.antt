@@ -54,6 +54,4 @@ AddsFresh-from nodes nodes' m m' number id k e a b i =
       adds = record { nodes = a; at_end = i; bound = λ n. ap (λ v. get_or v n None) b ∙ get_or_push m None n };
       unused = λ x h. (let g = k.tabled.variables_in x number h in absurd (omega (arith, g, e)));
       free = ap (λ v. get_or v number None) b ∙ get_or_push m None number ∙ get_or_past m number None (omega (arith, e));
-      in_order = e;
-      longer = (let len : length (m ++ None ∷ []) ≡ length m + 1 = length-append m (None ∷ []) in ap length b ∙ len);
     }

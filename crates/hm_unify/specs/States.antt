@@ -30,8 +30,6 @@ pub record AddsFresh (old new : State) (id : TyId) : Type 0 where
   pub adds : Adds old new (Var number) id
   pub unused : (x : TyId) → node_at old.nodes x ≡ Some (Var number) → ⊥
   pub free : slice_index_or new.bound number None ≡ None
-  pub in_order : number ≡ length old.bound
-  pub longer : length new.bound ≡ length old.bound + 1
 
 -- a mixed order of variables: chains of variables, bound in it, stay short in practice
 abbrev pub priority : ℕ → ℕ
@@ -61,7 +59,6 @@ pub record IsTable (nodes : List TyNode) : Type 0 where
 pub record IsNew (table : List TyNode) (new : State) : Type 0 where
   pub nodes : new.nodes ≡ table
   pub free : (n : ℕ) → slice_index_or new.bound n None ≡ None
-  pub first : table ≡ [] → length new.bound ≡ 0
 
 -- the parts of a node lie in the table
 abbrev pub PartsWithin : ℕ → TyNode → Type 0

@@ -1,5 +1,5 @@
 //! Tables of nodes and of bound variables.
-ghost use Rattle.std.specs.Prelude.{◌≡◌, ℕ, ◌<◌, ◌≤◌, ◌^◌, length, min, IfOk, OnOk, None, Some, [], slice_get, slice_index_or, vec_len};
+ghost use Rattle.std.specs.Prelude.{◌≡◌, ℕ, ◌<◌, ◌≤◌, ◌^◌, length, min, IfOk, OnOk, None, Some, slice_get, slice_index_or, vec_len};
 ghost use Rattle.ml_types.specs.declared.node.TyId.{TyId};
 ghost use Rattle.ml_types.specs.declared.node.TyNode.{TyNode};
 ghost use Rattle.ml_types.specs.Types.{Tree, tree_size};
@@ -31,7 +31,6 @@ pub fn cover(bound: &mut Vec<Option<TyId>>, node: &TyNode) -> Result<(), NoMemor
 pub fn covering(alloc: Global, nodes: &[TyNode]) -> Result<Vec<Option<TyId>>, NoMemory>
     ensures free { IfOk result (λ b. (n : ℕ) → slice_index_or b.items n None ≡ None) }
     ensures covers { IfOk result (λ b. (i : ℕ) (k : TyNode) (n : ℕ) → slice_get nodes.now i ≡ Some k → variable_of k ≡ Some n → n < length b.items) }
-    ensures first { IfOk result (λ b. nodes.now ≡ [] → length b.items ≡ 0) }
 {
     let mut bound = Vec::new(alloc);
     for at in 0..nodes.len() {

@@ -7,6 +7,5 @@ use Rattle.hm_unify.proofs.tables.covering.Given as goal
 abbrev pub invariant-loop-at : goal.invariant-loop-at
 invariant-loop-at l = record {
   free : (n : ℕ) → get_or l.bound.items n None ≡ None;
-  first : l.at ≡ 0 → length l.bound.items ≡ 0;
   covers : (i : ℕ) (k : TyNode) (n : ℕ) → i < l.at → slice_get l.nodes i ≡ Some k → variable_of k ≡ Some n → n < length l.bound.items;
 }
