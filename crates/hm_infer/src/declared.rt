@@ -86,12 +86,11 @@ fn declare_types(solver: &mut Solver, d: &Decls, table: &TyTable) -> Result<(), 
     ensures { OnOk result (DeclaresMore d.now.types table.now.nodes (store solver.old) (store solver.new)) }
 {
     let mut met: HashMap<u32, bool> = HashMap::new(solver.alloc);
-    let mut newest = 0;
     for number in 0..u32::MAX {
         if number as usize >= table.nodes.as_slice().len() {
             return Ok(());
         }
-        declare_from(solver, d, table, &mut met, &mut newest, TyId(number))?;
+        declare_from(solver, d, table, &mut met, TyId(number))?;
     }
     // No table has so many nodes.
     Err(NoMemory)
@@ -105,7 +104,6 @@ fn declare_from(
     d: &Decls,
     table: &TyTable,
     met: &mut HashMap<u32, bool>,
-    newest: &mut u32,
     root: TyId,
 ) -> Result<(), NoMemory>
     ensures { OnOk result (DeclaresMore d.now.types table.now.nodes (store solver.old) (store solver.new)) }
@@ -119,7 +117,7 @@ fn declare_from(
         let Some(frame) = stack.pop() else {
             return Ok(());
         };
-        visit(solver, d, table, met, newest, &mut stack, frame)?;
+        visit(solver, d, table, met, &mut stack, frame)?;
     }
     // No walk has so many steps.
     Err(NoMemory)
@@ -132,7 +130,6 @@ fn visit(
     d: &Decls,
     table: &TyTable,
     met: &mut HashMap<u32, bool>,
-    newest: &mut u32,
     stack: &mut Vec<Frame>,
     frame: Frame,
 ) -> Result<(), NoMemory>
@@ -140,7 +137,7 @@ fn visit(
 {
     let Frame { id, closing } = frame;
     if closing {
-        return declare(solver, d, table, newest, id);
+        return declare(solver, d, table, id);
     }
     if met.contains_key(&id.0) {
         return Ok(());
@@ -206,27 +203,20 @@ fn alias(d: &Decls, number: u32) -> Option<TyId>
 }
 
 /// Gives a declared type an id, if its parts and what it abbreviates have one.
-fn declare(
-    solver: &mut Solver,
-    d: &Decls,
-    table: &TyTable,
-    newest: &mut u32,
-    ty: TyId,
-) -> Result<(), NoMemory>
+fn declare(solver: &mut Solver, d: &Decls, table: &TyTable, ty: TyId) -> Result<(), NoMemory>
     ensures { OnOk result (DeclaresMore d.now.types table.now.nodes (store solver.old) (store solver.new)) }
 {
-    let room = has_room(*newest, table);
+    let room = has_room(solver, table);
     let Some(id) = find(solver, d, table, room, ty)? else {
         return Ok(())
     };
-    *newest = (*newest).max(id.0);
     solver.declare(ty, id)
 }
 
 /// Whether large types may have more nodes.
-fn has_room(newest: u32, table: &TyTable) -> bool {
-    let count = table.nodes.as_slice().len();
-    (newest as u64).saturating_sub(count as u64) <= LIMIT
+fn has_room(solver: &Solver, table: &TyTable) -> bool {
+    let count = table.nodes.as_slice().len() as u64;
+    solver.count().saturating_sub(count) <= LIMIT
 }
 
 /// The id of a declared type whose parts and body have ids.

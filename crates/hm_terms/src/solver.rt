@@ -65,6 +65,13 @@ impl Solver {
         })
     }
 
+    /// How many nodes there are.
+    pub fn count(&self) -> u64
+        ensures { result ≡ length (store self.now).nodes }
+    {
+        self.table.count()
+    }
+
     /// One node more, if its parts are ids of these bindings.
     pub fn add(&mut self, node: TyNode) -> Result<TyId, NoMemory>
         ensures adds { IfOk result (λ id. AddsNode (store self.old) (store self.new) node id) }
