@@ -13,7 +13,7 @@ use ml_types::{Decls, TyId, TyNode, TyTable};
 use ml_typing::Unknown;
 use oxml_base::{Items, NoMemory};
 use sqlite_items::at;
-use std::collections::HashMap;
+use std::collections::HashSet;
 
 /// How many nodes may be made, beside one for each of the table's, before large types are given up. Thirty
 /// declarations as `type 'a t = 'a s s` would make 2^30 nodes, of a type that no value ever has, and may
@@ -85,7 +85,7 @@ fn add_variables(solver: &mut Solver, count: u32) -> Result<(), NoMemory>
 fn declare_types(solver: &mut Solver, d: &Decls, table: &TyTable) -> Result<(), NoMemory>
     ensures { OnOk result (DeclaresMore d.now.types table.now.nodes (store solver.old) (store solver.new)) }
 {
-    let mut met: HashMap<u32, bool> = HashMap::new(solver.alloc);
+    let mut met: HashSet<u32> = HashSet::new(solver.alloc);
     for number in 0..u32::MAX {
         if number as usize >= table.nodes.as_slice().len() {
             return Ok(());
@@ -103,7 +103,7 @@ fn declare_from(
     solver: &mut Solver,
     d: &Decls,
     table: &TyTable,
-    met: &mut HashMap<u32, bool>,
+    met: &mut HashSet<u32>,
     root: TyId,
 ) -> Result<(), NoMemory>
     ensures { OnOk result (DeclaresMore d.now.types table.now.nodes (store solver.old) (store solver.new)) }
@@ -129,7 +129,7 @@ fn visit(
     solver: &mut Solver,
     d: &Decls,
     table: &TyTable,
-    met: &mut HashMap<u32, bool>,
+    met: &mut HashSet<u32>,
     stack: &mut Vec<Frame>,
     frame: Frame,
 ) -> Result<(), NoMemory>
@@ -139,10 +139,9 @@ fn visit(
     if closing {
         return declare(solver, d, table, id);
     }
-    if met.contains_key(&id.0) {
+    if !met.insert(id.0)? {
         return Ok(());
     }
-    met.insert(id.0, true)?;
     stack.push(Frame { id, closing: true })?;
     push_needed(d, table, stack, id)
 }
